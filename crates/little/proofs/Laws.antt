@@ -1,0 +1,132 @@
+-- The laws of `specs/Little.antt`: a number and its bytes, a part of a list, and what a write changes.
+-- Assumes nothing.
+use mathlib.Core.Path.{_≡_, refl, sym, ap, _∙_}
+use mathlib.Core.Logic.{_⊎_, inl, inr}
+use mathlib.Core.List.{List, [], _∷_, _++_, append-assoc}
+use Prim.Native.Nat.{ℕ, zero, suc, _+_, _-_, _*_, _/_, _%_, _^_, _≤_, _<_}
+use native.Mathlib.Nat.{add-zero, add-assoc, pow-suc, mod-add-div}
+use native.Mathlib.Numerals.{add-one}
+use native.Mathlib.Omega.{arith}
+use lib.Dec.{lit<}
+use lib.ListN.{length, take, drop, getD, set, length-append, length-take, length-drop, take-append-drop}
+use lib.Seq.{length-take-le, take-at, drop-at, take-append-seam, set-split, drop-drop, getD-take, getD-drop, ext-getD}
+use Rattle.little.specs.Little.{bytes, value, part, written, AreBytes}
+
+-- ---- a number and its bytes
+
+pub length-bytes : (k n : ℕ) → length (bytes k n) ≡ k
+unfolding bytes
+length-bytes zero n = refl
+length-bytes (suc k) n = ap suc (length-bytes k (n / 256))
+
+pub bytes-are-bytes : (k n : ℕ) → AreBytes (bytes k n)
+unfolding bytes
+bytes-are-bytes zero n i = lit< tt
+bytes-are-bytes (suc k) n zero = omega arith
+bytes-are-bytes (suc k) n (suc i) = bytes-are-bytes k (n / 256) i
+
+-- the bytes of a number that they have room for hold it
+pub value-bytes : (k : ℕ) {n : ℕ} → n < 256 ^ k → value (bytes k n) ≡ n
+unfolding bytes value
+value-bytes zero h = omega arith
+value-bytes (suc k) {n} h = rw (value-bytes k {n = n / 256} (omega (arith, pow-suc 256 k))) (mod-add-div n 256)
+
+pub value-range : (s : List ℕ) → AreBytes s → value s < 256 ^ length s
+unfolding value
+value-range [] h = lit< tt
+value-range (b ∷ s) h = omega (arith, pow-suc 256 (length s), h 0, value-range s (λ i. h (suc i)))
+
+-- the bytes of the number that a list of bytes holds are that list
+pub bytes-value : (s : List ℕ) → AreBytes s → bytes (length s) (value s) ≡ s
+unfolding bytes value
+bytes-value [] h = refl
+bytes-value (b ∷ s) h =
+    let low : (b + 256 * value s) % 256 ≡ b = omega (arith, h 0) in
+    let high : (b + 256 * value s) / 256 ≡ value s = omega (arith, h 0) in
+    rw (low, high, bytes-value s (λ i. h (suc i)))
+
+-- ---- a part of a list, and a write to one
+
+pub length-part : (at k : ℕ) (s : List ℕ) → at + k ≤ length s → length (part at k s) ≡ k
+unfolding part
+length-part at k s h = simp (length-take, length-drop) (omega arith)
+
+-- two lists as long that agree from index `at` up to at + k have the same part there
+part-ext : (at k : ℕ) (s t : List ℕ) → length s ≡ length t → ((i : ℕ) → at ≤ i → i < at + k → getD s i 0 ≡ getD t i 0) → part at k s ≡ part at k t
+unfolding part
+part-ext at k s t e h =
+    ext-getD 0 _ _ (simp (length-take, length-drop, e))
+    (λ i l.
+    let l′ : i < k = omega (arith, simp (length-take) at l) in
+    rw (getD-take k (drop at s) i 0 l′, getD-take k (drop at t) i 0 l′, getD-drop at s, getD-drop at t) (h (at + i) (omega arith) (omega arith)))
+
+module _ (at : ℕ) (b s : List ℕ) (fits : at + length b ≤ length s) where
+  pub length-written : length (written at b s) ≡ length s
+  unfolding written
+  length-written = simp (length-append, length-take, length-drop) (omega arith)
+
+  length-head : length (take at s ++ b) ≡ at + length b
+  length-head = simp (length-append, length-take) (omega arith)
+
+  -- up to the written bytes the list is as it was
+  pub take-written : take at (written at b s) ≡ take at s
+  unfolding written
+  take-written = take-at (take at s) _ at (length-take-le at s (omega arith))
+
+  -- up to their end it is that and the written bytes
+  take-through : take (at + length b) (written at b s) ≡ take at s ++ b
+  unfolding written
+  take-through = rw (← append-assoc) (take-at (take at s ++ b) _ _ length-head)
+
+  -- and from their end on it is as it was
+  pub drop-written : drop (at + length b) (written at b s) ≡ drop (at + length b) s
+  unfolding written
+  drop-written = rw (← append-assoc) (drop-at (take at s ++ b) _ _ length-head)
+
+  -- what was written is read
+  pub part-written : part at (length b) (written at b s) ≡ b
+  unfolding part written
+  part-written = rw (drop-at (take at s) _ at (length-take-le at s (omega arith))) (take-append-seam b _)
+
+  -- every other byte stays
+  pub written-elsewhere : (i : ℕ) → (i < at) ⊎ (at + length b ≤ i) → getD (written at b s) i 0 ≡ getD s i 0
+  written-elsewhere i (inl h) = sym (getD-take at _ i 0 h) ∙ ap (λ (l : List ℕ). getD l i 0) take-written ∙ getD-take at s i 0 h
+  written-elsewhere i (inr h) =
+      let e : i ≡ at + length b + (i - (at + length b)) = omega arith in
+      rw (e, ← getD-drop _ (written at b s), ← getD-drop _ s, drop-written)
+
+  -- a part that does not meet the written bytes stays
+  pub part-written-elsewhere : (j k : ℕ) → (j + k ≤ at) ⊎ (at + length b ≤ j) → part j k (written at b s) ≡ part j k s
+  part-written-elsewhere j k (inl h) = part-ext j k _ s length-written (λ i from to. written-elsewhere i (inl (omega arith)))
+  part-written-elsewhere j k (inr h) = part-ext j k _ s length-written (λ i from to. written-elsewhere i (inr (omega arith)))
+
+  -- of two writes to the same place the later wins
+  pub written-twice : (a : List ℕ) → length a ≡ length b → written at a (written at b s) ≡ written at a s
+  unfolding written
+  written-twice a e = rw (take-written, e, drop-written)
+
+-- a write of no bytes changes nothing
+pub written-nil : (at : ℕ) (s : List ℕ) → written at [] s ≡ s
+unfolding written
+written-nil at s = rw add-zero (take-append-drop at s)
+
+-- a store is a write of one byte
+pub set-written : (at b : ℕ) (s : List ℕ) → at < length s → set s at b ≡ written at (b ∷ []) s
+unfolding written
+set-written at b s h = rw add-one (set-split s at b h)
+
+-- two neighbouring writes are one
+pub written-next : (at : ℕ) (a b s : List ℕ) → at + length a + length b ≤ length s → written (at + length a) b (written at a s) ≡ written at (a ++ b) s
+unfolding written
+written-next at a b s h =
+    let fits : at + length a ≤ length s = omega arith in
+    let after : drop (at + length a + length b) (written at a s) ≡ drop (at + length a + length b) s =
+    sym (drop-drop (length b) _ (written at a s)) ∙ ap (drop (length b)) (drop-written at a s fits) ∙ drop-drop (length b) _ s in
+    rw (take-through at a s fits, after) (simp (length-append, append-assoc, add-assoc))
+
+-- what is put is got back
+pub put-then-get : (at k : ℕ) {n : ℕ} (s : List ℕ) → at + k ≤ length s → n < 256 ^ k → value (part at k (written at (bytes k n) s)) ≡ n
+put-then-get at k {n} s fits h =
+    let put : part at k (written at (bytes k n) s) ≡ bytes k n =
+    rw length-bytes at (part-written at (bytes k n) s (omega (arith, length-bytes k n))) in
+    rw put (value-bytes k h)

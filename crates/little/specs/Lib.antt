@@ -1,0 +1,2 @@
+-- `Little` has what the contracts of `src/` cite.
+pub mod Little
