@@ -1,0 +1,52 @@
+use mathlib.Core.Path.{_≡_, refl}
+use Rattle.plans.proofs.RoundedUp.{credit-sample-least, credit-sample-at-least, credit-sample-at-most, product-at-most}
+use Rattle.plans.specs.Credit.{sampleDividend, sampleDivisor, creditSample}
+use native.Mathlib.Omega.{arith}
+use borrow.Author.Needs.{needs}
+use Rattle.plans.proofs.credit.Credit.sample.Statement.{statement}
+use Rattle.plans.proofs.credit.Credit.sample.Tie as tie
+
+cast-lot : tie.Need-cast-lot
+cast-lot c = search needs
+
+mul-dividend : tie.Need-mul-dividend
+mul-dividend c = search needs
+
+cast-divisor : tie.Need-cast-divisor
+cast-divisor c = search needs
+
+add-divisor : tie.Need-add-divisor
+add-divisor c = search needs
+
+mul-divisor : tie.Need-mul-divisor
+mul-divisor c = omega (arith, product-at-most _ _ _ (c .before .before .pre .0) (c .before .before .pre .2) (c .before .before .pre .3))
+
+add-divisor-2 : tie.Need-add-divisor-2
+add-divisor-2 c = omega (arith, product-at-most _ _ _ (c .before .before .pre .0) (c .before .before .pre .2) (c .before .before .pre .3))
+
+rounded-up-requires : tie.Need-rounded-up-requires
+rounded-up-requires c κs = search needs
+
+sampled : (c : tie.After-rounded-up) → c .rounded-up .result ≡ creditSample (c .before .before .before .args .self .0) (c .before .before .before .args .size .0) (c .before .before .before .args .limit)
+unfolding creditSample sampleDividend sampleDivisor
+sampled c = c .rounded-up .ensures
+
+cast-t11 : tie.Need-cast-t11
+cast-t11 c = omega (arith, sampled c, credit-sample-at-most (c .before .before .before .args .self .0) (c .before .before .before .args .size .0) (c .before .before .before .args .limit))
+
+returns : tie.Need-returns
+returns c = rw (sampled c) (refl, (credit-sample-least _ _ _, (credit-sample-at-least _ _ _ (c .before .before .before .pre .1), credit-sample-at-most _ _ _)))
+
+pub sample-spec : {M : Type 1} → statement M
+sample-spec =
+    tie.close
+    (tie.spec
+    cast-lot
+    mul-dividend
+    cast-divisor
+    add-divisor
+    mul-divisor
+    add-divisor-2
+    rounded-up-requires
+    cast-t11
+    returns)

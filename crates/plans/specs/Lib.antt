@@ -1,0 +1,8 @@
+-- The two standards' numbers as paper 01 condenses them, in the paper's order.
+pub mod Verdicts
+pub mod Credit
+pub mod Severities
+pub mod Tables
+pub mod Stops
+pub mod Levels
+pub mod Continuous

@@ -1,0 +1,98 @@
+// Continuous sampling: paper 01, "Continuous".
+ghost use mathlib.Core.Path.{_≡_};
+ghost use Prim.Native.Nat.{_+_, _≤_};
+ghost use Rattle.plans.specs.Continuous.{screening, sampling, afterRun, afterBlock, afterStop};
+
+pub const SCREENING: u8 = 0;
+
+pub const SAMPLING: u8 = 1;
+
+// A continuous stream's state: bytes 24 to 31 of its area.
+pub struct Continuous {
+    // screening count
+    pub count: u32,
+    // 0 screening, 1 sampling
+    pub phase: u8,
+    // detections that have passed since the last one heard in sampling
+    pub tail: u16,
+}
+
+// What a block gives.
+pub struct Block {
+    pub state: Continuous,
+    pub accepted: u32,
+    pub hear_back: u32,
+}
+
+impl Continuous {
+    // In screening, with count right detections in an unbroken row.
+    pub fn screen(count: u32) -> Self
+        ensures { λ r. ⌜ r ≡ screening count ⌝ }
+    {
+        Self {
+            count,
+            phase: SCREENING,
+            tail: 0,
+        }
+    }
+
+    // In sampling, with tail detections passed since the last one heard.
+    fn sample(tail: u16) -> Self
+        ensures { λ r. ⌜ r ≡ sampling tail ⌝ }
+    {
+        Self {
+            count: 0,
+            phase: SAMPLING,
+            tail,
+        }
+    }
+
+    // A run in screening: h right detections, then a wrong one if wrong.
+    pub fn run(self, clearance: u32, h: u32, wrong: bool) -> Self
+        requires { ⌜ (self .count + h ≤ clearance) × (clearance ≤ 10000) ⌝ }
+        ensures { λ r. ⌜ r ≡ afterRun clearance h wrong self ⌝ }
+    {
+        if wrong {
+            return Self::screen(0);
+        }
+        let count = self.count + h;
+        if count == clearance {
+            return Self::sample(0);
+        }
+        Self::screen(count)
+    }
+
+    // A block in sampling, of which the p-th detection is heard.
+    pub fn block(self, interval: u32, p: u32, wrong: bool) -> Block
+        requires { ⌜ (1 ≤ p) × (p ≤ interval) × (interval ≤ 200) ⌝ }
+        ensures { λ r. ⌜ r ≡ afterBlock interval p wrong self ⌝ }
+    {
+        if wrong {
+            return Block {
+                state: Self::screen(0),
+                accepted: p - 1,
+                hear_back: self.tail as u32 + p - 1,
+            };
+        }
+        Block {
+            state: Self::sample((interval - p) as u16),
+            accepted: interval,
+            hear_back: 0,
+        }
+    }
+
+    // Meets a stop.
+    pub fn stop(self, why: u32, days: u32) -> Self
+        ensures { λ r. ⌜ r ≡ afterStop why days self ⌝ }
+    {
+        if why == 2 {
+            return Self::screen(0);
+        }
+        if self.phase == SAMPLING {
+            if 3 < days {
+                return Self::screen(0);
+            }
+        }
+        self
+    }
+}

@@ -1,0 +1,68 @@
+// Credit lots: document 004 (ISO 28593), clause 10.
+ghost use mathlib.Core.Path.{_≡_};
+ghost use Prim.Native.Nat.{_≤_, _<_, _^_};
+ghost use Rattle.plans.specs.Credit.{
+  roundedUp,
+  creditSample,
+  creditVerdict,
+  creditAfter,
+  sampleDividend,
+  sampleDivisor,
+  LeastNotBelow,
+};
+use crate::LotSize;
+use crate::SampleSize;
+use crate::verdict;
+
+// The credit K: detections accepted since a lot was last not accepted.
+pub struct Credit(pub u32);
+
+impl Credit {
+    // The sample that a lot asks for, where the AOQL is limit millionths: clause 10 a).
+    pub fn sample(self, size: LotSize, limit: u32) -> SampleSize
+        requires { ⌜ (self .0 ≤ 128000000) × (1 ≤ size .0) × (size .0 ≤ 1000000) × (limit ≤ 500000) ⌝ }
+        ensures { λ r. ⌜ r .0 ≡ creditSample (self .0) (size .0) limit ⌝ }
+        ensures least { λ r. ⌜ LeastNotBelow (sampleDividend (size .0)) (sampleDivisor (self .0) (size .0) limit) (r .0) ⌝ }
+        ensures range { λ r. ⌜ (1 ≤ r .0) × (r .0 ≤ size .0) ⌝ }
+    {
+        let lot = size.0 as u64;
+        let dividend = lot * 1000000;
+        let divisor = (self.0 as u64 + lot) * limit as u64 + 1000000;
+        SampleSize(rounded_up(dividend, divisor) as u32)
+    }
+
+    // The verdict on a lot with d wrong in its sample: clause 10 b) and c).
+    pub fn verdict(self, hear_all: bool, d: u32) -> u32
+        ensures { λ r. ⌜ r ≡ creditVerdict (self .0) «hear_all» d ⌝ }
+    {
+        if d == 0 {
+            verdict::ACCEPTED
+        } else if self.0 == 0 {
+            verdict::HEARD
+        } else if hear_all {
+            verdict::HEARD
+        } else {
+            verdict::WITHHELD
+        }
+    }
+
+    // The credit after a lot with d wrong in its sample: clause 10 b) and c).
+    pub fn after(self, size: LotSize, d: u32) -> Credit
+        requires { ⌜ (self .0 ≤ 128000000) × (size .0 ≤ 1000000) ⌝ }
+        ensures { λ r. ⌜ r .0 ≡ creditAfter (self .0) (size .0) d ⌝ }
+    {
+        if d == 0 {
+            Credit(self.0 + size.0)
+        } else {
+            Credit(0)
+        }
+    }
+}
+
+// a / b, rounded up to a whole number.
+fn rounded_up(a: u64, b: u64) -> u64
+    requires { ⌜ (0 < b) × (a < 2 ^ 63) ⌝ }
+    ensures { λ r. ⌜ r ≡ roundedUp a b ⌝ }
+{
+    if a % b == 0 { a / b } else { a / b + 1 }
+}
