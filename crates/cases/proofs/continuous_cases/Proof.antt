@@ -1,0 +1,37 @@
+use native.Mathlib.Omega.{arith}
+use Rattle.plans.specs.Continuous.{screening, sampling, afterRun, afterBlock}
+use Rattle.cases.proofs.Theorem.{proved-cases}
+use Rattle.cases.specs.Cases.{continuousCases, cleared, rightBlock, wrongBlock, givenIn, statedIn}
+use borrow.Author.Needs.{needs}
+use Rattle.cases.proofs.continuous_cases.Statement.{statement}
+use Rattle.cases.proofs.continuous_cases.Tie as tie
+
+screen-requires : tie.Need-screen-requires
+screen-requires c κs = search needs
+
+run-requires : tie.Need-run-requires
+unfolding screening
+run-requires c κs = rw (c .screen .ensures) (omega arith)
+
+block-requires : tie.Need-block-requires
+block-requires c κs = search needs
+
+block-requires-2 : tie.Need-block-requires-2
+block-requires-2 c κs = search needs
+
+add-t6 : tie.Need-add-t6
+unfolding afterBlock
+add-t6 c = rw (c .before .before .before .block .ensures) (omega arith)
+
+add-t7 : tie.Need-add-t7
+unfolding afterBlock
+add-t7 c = rw (c .before .before .before .before .block .ensures, c .before .before .block2 .ensures) (omega arith)
+
+returns : tie.Need-returns
+unfolding continuousCases cleared rightBlock wrongBlock givenIn statedIn
+returns c = cc (proved-cases .2)
+
+pub continuous-cases-spec : {M : Type 1} → statement M
+continuous-cases-spec =
+    tie.close
+    (tie.spec screen-requires run-requires block-requires block-requires-2 add-t6 add-t7 returns)

@@ -1,0 +1,2 @@
+-- Paper 01's table of proved cases.
+pub mod Cases

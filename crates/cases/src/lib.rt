@@ -1,0 +1,62 @@
+// Paper 01's table of proved cases, worked out by the code of plans. Each contract is the table's own numbers.
+ghost use mathlib.Core.Path.{_≡_};
+ghost use Prim.Native.Nat.{_≤_};
+ghost use Rattle.cases.specs.Cases.{creditCases, levelCases, continuousCases, statedIn};
+ghost use Rattle.plans.specs.Credit.{creditSample};
+ghost use Rattle.plans.specs.Tables.{levelSample};
+use plans::LotSize;
+use plans::continuous::Continuous;
+use plans::credit::Credit;
+use plans::level;
+use plans::tables;
+
+pub fn credit_cases() -> [u32; 7]
+    ensures { λ r. ⌜ r ≡ statedIn creditCases ⌝ }
+{
+    [
+        credit_sample(0, 201, 15000),
+        credit_sample(201, 192, 15000),
+        credit_sample(0, 50, 10000),
+        credit_sample(200, 50, 10000),
+        credit_sample(0, 9900, 10000),
+        credit_sample(0, 9901, 10000),
+        credit_sample(0, 1, 10000),
+    ]
+}
+
+pub fn level_cases() -> [u32; 5]
+    ensures { λ r. ⌜ r ≡ statedIn levelCases ⌝ }
+{
+    [
+        level_sample(2, level::NORMAL, 800),
+        level_sample(2, level::TIGHTENED, 800),
+        level_sample(2, level::REDUCED, 800),
+        level_sample(2, level::NORMAL, 961),
+        level_sample(7, level::NORMAL, 2),
+    ]
+}
+
+// What is to be heard back, and what is accepted in all.
+pub fn continuous_cases() -> [u32; 2]
+    ensures { λ r. ⌜ r ≡ statedIn continuousCases ⌝ }
+{
+    let cleared = Continuous::screen(0).run(116, 116, false);
+    let right = cleared.block(48, 10, false);
+    let state = right.state;
+    let wrong = state.block(48, 5, true);
+    [wrong.hear_back, 116 + right.accepted + wrong.accepted]
+}
+
+fn credit_sample(credit: u32, size: u32, limit: u32) -> u32
+    requires { ⌜ (credit ≤ 128000000) × (1 ≤ size) × (size ≤ 1000000) × (limit ≤ 500000) ⌝ }
+    ensures { λ r. ⌜ r ≡ creditSample credit size limit ⌝ }
+{
+    Credit(credit).sample(LotSize(size), limit).0
+}
+
+fn level_sample(vl: u32, severity: u8, size: u32) -> u32
+    requires { ⌜ (1 ≤ vl) × (vl ≤ 7) ⌝ }
+    ensures { λ r. ⌜ r ≡ levelSample vl severity size ⌝ }
+{
+    tables::sample_size(vl, severity, LotSize(size)).0
+}
