@@ -130,3 +130,13 @@ put-then-get at k {n} s fits h =
     let put : part at k (written at (bytes k n) s) ≡ bytes k n =
     rw length-bytes at (part-written at (bytes k n) s (omega (arith, length-bytes k n))) in
     rw put (value-bytes k h)
+
+-- a part, and what stands behind it
+pub part-and-rest : (at k : ℕ) (s : List ℕ) → part at k s ++ drop (at + k) s ≡ drop at s
+unfolding part
+part-and-rest at k s = rw (← drop-drop k at s) (take-append-drop k (drop at s))
+
+-- writing what stands there changes nothing
+pub written-same : (at k : ℕ) (s : List ℕ) → at + k ≤ length s → written at (part at k s) s ≡ s
+unfolding written
+written-same at k s fits = rw (length-part at k s fits, part-and-rest at k s) (take-append-drop at s)

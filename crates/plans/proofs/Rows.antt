@@ -1,7 +1,7 @@
 -- Table 1's rows follow one another, so a lot size is in the row where it lies between the row's start and the next one's;
 -- and each of its letters is a row of Table 2. Each is one computed test over the table. Assumes nothing.
 use Prim.Native.Nat.{ℕ, zero, suc, _+_, _-_, _≤_, _<_}
-use mathlib.Core.Path.{_≡_, refl, sym}
+use mathlib.Core.Path.{_≡_, refl}
 use mathlib.Core.Bool.{Bool, true, false, cond, _&&_}
 use mathlib.Core.List.{List, [], _∷_}
 use native.Mathlib.Omega.{arith}

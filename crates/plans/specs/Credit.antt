@@ -1,5 +1,5 @@
 -- Credit lots: document 004 (ISO 28593), clauses 9 and 10; paper 01, "Credit lots". Assumes nothing.
-use Prim.Native.Nat.{ℕ, _+_, _*_, _-_, _/_, _%_, _≤_}
+use Prim.Native.Nat.{ℕ, _+_, _*_, _/_, _%_, _≤_}
 use mathlib.Core.Bool.{Bool, cond, _||_}
 use lib.Dec.{eqb}
 use Rattle.plans.specs.Verdicts.{lotAccepted, lotHeard, lotWithheld}

@@ -1,7 +1,7 @@
 -- Level lots, the moves between levels: paper 01, "Level lots", with its house numbers; document 000, 5.1.1.6.2 to 5.1.1.6.6 a).
 -- Assumes nothing.
 use Prim.Native.Nat.{ℕ, _+_, _*_, _/_, _%_}
-use mathlib.Core.Bool.{Bool, true, false, cond, _&&_, _||_}
+use mathlib.Core.Bool.{Bool, cond, _&&_, _||_}
 use lib.Dec.{eqb, leb}
 use Rattle.plans.specs.Severities.{reduced, normal, tightened, discontinued}
 use Rattle.plans.specs.Stops.{setUpChanged, longStop}

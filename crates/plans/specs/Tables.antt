@@ -1,6 +1,6 @@
 -- Code letters and sample sizes: document 000 (ISO 28594), Tables 1 and 2. Where paper 01's tables differ, these decide.
 -- Assumes nothing.
-use Prim.Native.Nat.{ℕ, _+_, _-_, min}
+use Prim.Native.Nat.{ℕ, _-_, min}
 use mathlib.Core.Bool.{cond}
 use mathlib.Core.List.{List, [], _∷_}
 use lib.Dec.{leb, eqb}

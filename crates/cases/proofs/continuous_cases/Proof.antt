@@ -1,5 +1,5 @@
 use native.Mathlib.Omega.{arith}
-use Rattle.plans.specs.Continuous.{screening, sampling, afterRun, afterBlock}
+use Rattle.plans.specs.Continuous.{screening, afterBlock}
 use Rattle.cases.proofs.Theorem.{proved-cases}
 use Rattle.cases.specs.Cases.{continuousCases, cleared, rightBlock, wrongBlock, givenIn, statedIn}
 use borrow.Author.Needs.{needs}

@@ -1,5 +1,4 @@
 use Rattle.plans.proofs.RoundedUp.{credit-after-at-most}
-use native.Mathlib.Omega.{arith}
 use borrow.Author.Needs.{needs}
 use Rattle.vectors.proofs.credit_lot.Statement.{statement}
 use Rattle.vectors.proofs.credit_lot.Tie as tie

@@ -1,0 +1,227 @@
+-- What is known of a plan that was accepted, and of entries: every refusal was passed. Assumes nothing.
+use Prim.Native.Nat.{ℕ, _+_, _≤_, _<_}
+use mathlib.Core.Path.{_≡_, refl}
+use mathlib.Core.Bool.{Bool, true, false, not, _&&_, _||_}
+use mathlib.Core.List.{List, [], _∷_}
+use native.Mathlib.Omega.{arith}
+use lib.Dec.{T, eqb, ltb, leb, eqb→eq, leb→le}
+use lib.ListN.{length}
+use borrow.Author.Tests.{ltb-false, leb-false, eqb-true, eqb-false}
+use Rattle.plans.specs.Continuous.{isSampling}
+use Rattle.model.specs.declared.Plan.{Plan}
+use Rattle.model.specs.declared.Entry.{Entry}
+use Rattle.model.specs.declared.Entry.the-variants.{Lot, Run, Block, Stop}
+use Rattle.model.specs.declared.Figures.{Figures}
+use Rattle.model.specs.Sizes.{mostRecords}
+use Rattle.model.specs.Stations.{isCredit, isLevel, isContinuous, within, validPlan, entryArguments, allWords}
+use Rattle.model.specs.Figuring.{sampleAsked, verdictOn, figuresOf}
+use Rattle.model.specs.Calls.{
+  Refusal,
+  refuse,
+  firstOf,
+  isDiscontinued,
+  isFull,
+  sameLabel,
+  sizeInRange,
+  countsAgree,
+  entryRefusals,
+  admissible,
+}
+use Rattle.model.proofs.Booleans.{holds-of, both-of, neither-of, not-false-of, within-of}
+
+-- where none is given, the first does not apply, and none of the rest is given
+pub passed : (n : ℕ) (applies : Bool) (rs : List Refusal) → 0 < n → firstOf (refuse n applies ∷ rs) ≡ 0
+    → (applies ≡ false) × (firstOf rs ≡ 0)
+unfolding firstOf
+passed n true rs positive e = absurd (omega arith)
+passed n false rs positive e = (refl, e)
+
+pub record AllowedLot (p : Plan) (f : Figures) (count label N n d D : ℕ) : Type 0 where
+  pub lots : isContinuous p ≡ false
+  pub running : isDiscontinued f ≡ false
+  pub room : count < 128
+  pub otherLabel : sameLabel f label ≡ false
+  pub size : sizeInRange p N ≡ true
+  pub sample : n ≡ sampleAsked p f N
+  pub counts : countsAgree (verdictOn p f d) N n d D ≡ true
+
+pub record AllowedRun (p : Plan) (f : Figures) (count h w : ℕ) : Type 0 where
+  pub continuous : isContinuous p ≡ true
+  pub room : count < 128
+  pub right : h ≤ 10000
+  pub wrong : w ≤ 1
+  pub some : 0 < h + w
+  pub screened : isSampling (f .continuous) ≡ false
+  pub fits : f .continuous .count + h + w ≤ p .a
+
+pub record AllowedBlock (p : Plan) (f : Figures) (count q w : ℕ) : Type 0 where
+  pub continuous : isContinuous p ≡ true
+  pub room : count < 128
+  pub first : 1 ≤ q
+  pub last : q ≤ p .b
+  pub wrong : w ≤ 1
+  pub sampled : isSampling (f .continuous) ≡ true
+
+pub record AllowedStop (f : Figures) (count why days : ℕ) : Type 0 where
+  pub running : isDiscontinued f ≡ false
+  pub room : count < 128
+  pub first : 1 ≤ why
+  pub last : why ≤ 2
+  pub long : days ≤ 255
+
+module _ (p : Plan) (f : Figures) (count : ℕ) where
+  room-of : isFull count ≡ false → count < 128
+  unfolding isFull
+  room-of e = leb-false 128 count e
+
+  pub allowed-lot : (label N n d D : ℕ) → firstOf (entryRefusals p f count (Lot label N n d D)) ≡ 0
+      → AllowedLot p f count label N n d D
+  unfolding entryRefusals
+  allowed-lot label N n d D e =
+      let seven = passed 7 _ _ (omega arith) e in
+      let eight = passed 8 _ _ (omega arith) (seven .1) in
+      let nine = passed 9 _ _ (omega arith) (eight .1) in
+      let ten = passed 10 _ _ (omega arith) (nine .1) in
+      let eleven = passed 11 _ _ (omega arith) (ten .1) in
+      let twelve = passed 12 _ _ (omega arith) (eleven .1) in
+      let thirteen = passed 13 _ _ (omega arith) (twelve .1) in
+      record {
+        lots = seven .0;
+        running = eight .0;
+        room = room-of (nine .0);
+        otherLabel = ten .0;
+        size = not-false-of _ (eleven .0);
+        sample = eqb-true n (sampleAsked p f N) (not-false-of _ (twelve .0));
+        counts = not-false-of _ (thirteen .0);
+      }
+
+  pub allowed-run : (h w : ℕ) → firstOf (entryRefusals p f count (Run h w)) ≡ 0 → AllowedRun p f count h w
+  unfolding entryRefusals
+  allowed-run h w e =
+      let seven = passed 7 _ _ (omega arith) e in
+      let nine = passed 9 _ _ (omega arith) (seven .1) in
+      let fifteen = passed 15 _ _ (omega arith) (nine .1) in
+      let fourteen = passed 14 _ _ (omega arith) (fifteen .1) in
+      let range = neither-of (ltb 10000 h || ltb 1 w) (eqb (h + w) 0) (fifteen .0) in
+      let ranges = neither-of (ltb 10000 h) (ltb 1 w) (range .0) in
+      let state = neither-of (isSampling (f .continuous)) (ltb (p .a) (f .continuous .count + h + w)) (fourteen .0) in
+      let nonzero : h + w ≡ 0 → ⊥ = eqb-false (h + w) 0 (range .1) in
+      record {
+        continuous = not-false-of _ (seven .0);
+        room = room-of (nine .0);
+        right = ltb-false 10000 h (ranges .0);
+        wrong = ltb-false 1 w (ranges .1);
+        some = omega arith;
+        screened = state .0;
+        fits = ltb-false (p .a) (f .continuous .count + h + w) (state .1);
+      }
+
+  pub allowed-block : (q w : ℕ) → firstOf (entryRefusals p f count (Block q w)) ≡ 0 → AllowedBlock p f count q w
+  unfolding entryRefusals
+  allowed-block q w e =
+      let seven = passed 7 _ _ (omega arith) e in
+      let nine = passed 9 _ _ (omega arith) (seven .1) in
+      let fifteen = passed 15 _ _ (omega arith) (nine .1) in
+      let fourteen = passed 14 _ _ (omega arith) (fifteen .1) in
+      let range = neither-of (not (within 1 (p .b) q)) (ltb 1 w) (fifteen .0) in
+      let heard = within-of 1 (p .b) q (not-false-of _ (range .0)) in
+      record {
+        continuous = not-false-of _ (seven .0);
+        room = room-of (nine .0);
+        first = heard .0;
+        last = heard .1;
+        wrong = ltb-false 1 w (range .1);
+        sampled = not-false-of _ (fourteen .0);
+      }
+
+  pub allowed-stop : (why days : ℕ) → firstOf (entryRefusals p f count (Stop why days)) ≡ 0 → AllowedStop f count why days
+  unfolding entryRefusals
+  allowed-stop why days e =
+      let eight = passed 8 _ _ (omega arith) e in
+      let nine = passed 9 _ _ (omega arith) (eight .1) in
+      let fifteen = passed 15 _ _ (omega arith) (nine .1) in
+      let range = neither-of (not (within 1 2 why) || ltb 255 days) (eqb why 2 && ltb 0 days) (fifteen .0) in
+      let ranges = neither-of (not (within 1 2 why)) (ltb 255 days) (range .0) in
+      let reason = within-of 1 2 why (not-false-of _ (ranges .0)) in
+      record {
+        running = eight .0;
+        room = room-of (nine .0);
+        first = reason .0;
+        last = reason .1;
+        long = ltb-false 255 days (ranges .1);
+      }
+
+-- an entry was accepted with room for its record
+pub room-for : (p : Plan) (f : Figures) (count : ℕ) (e : Entry) → firstOf (entryRefusals p f count e) ≡ 0 → count < mostRecords
+room-for p f count (Lot label N n d D) h = allowed-lot p f count label N n d D h .room
+room-for p f count (Run h w) e = allowed-run p f count h w e .room
+room-for p f count (Block q w) e = allowed-block p f count q w e .room
+room-for p f count (Stop why days) e = allowed-stop p f count why days e .room
+
+-- the newest entry was accepted after the others, which are admissible
+pub record Newest (p : Plan) (e : Entry) (es : List Entry) : Type 0 where
+  pub others : T (admissible p es)
+  pub accepted : firstOf (entryRefusals p (figuresOf p es) (length es) e) ≡ 0
+  pub words : T (allWords (entryArguments e))
+
+pub newest-of : (p : Plan) (e : Entry) (es : List Entry) → T (admissible p (e ∷ es)) → Newest p e es
+unfolding admissible
+newest-of p e es t =
+    let refusal : ℕ = firstOf (entryRefusals p (figuresOf p es) (length es) e) in
+    let outer = both-of (admissible p es && eqb refusal 0) (allWords (entryArguments e)) t in
+    let inner = both-of (admissible p es) (eqb refusal 0) (outer .0) in
+    record { others = inner .0; accepted = eqb→eq refusal 0 (inner .1); words = outer .1 }
+
+pub count-within : (p : Plan) (es : List Entry) → T (admissible p es) → length es ≤ mostRecords
+count-within p [] t = omega arith
+count-within p (e ∷ es) t = room-for p (figuresOf p es) (length es) e (newest-of p e es t .accepted)
+
+-- the ranges of a valid plan, whatever its kind
+pub record PlanRange (p : Plan) : Type 0 where
+  pub kindFrom : 1 ≤ p .kind
+  pub kindTo : p .kind ≤ 3
+  pub optionTo : p .option ≤ 1
+  pub aTo : p .a ≤ 500000
+  pub bTo : p .b ≤ 200
+
+-- those of a plan for lots
+lots-range : (p : Plan) (most : ℕ) → T (within 1 most (p .a) && eqb (p .b) 0 && leb (p .option) 1)
+    → (p .a ≤ most) × (p .b ≡ 0) × (p .option ≤ 1)
+lots-range p most t =
+    let outer = both-of (within 1 most (p .a) && eqb (p .b) 0) (leb (p .option) 1) t in
+    let inner = both-of (within 1 most (p .a)) (eqb (p .b) 0) (outer .0) in
+    (within-of 1 most (p .a) (holds-of _ (inner .0)) .1, eqb→eq (p .b) 0 (inner .1), leb→le (p .option) 1 (outer .1))
+
+pub plan-range : (p : Plan) → T (validPlan p) → PlanRange p
+unfolding validPlan isCredit isLevel isContinuous
+plan-range p t = go (isCredit p) (isLevel p) refl refl
+  where
+    go : (credit level : Bool) → isCredit p ≡ credit → isLevel p ≡ level → PlanRange p
+    go true level c l = omega (arith, eqb-true (p .kind) 1 c, lots-range p 500000 (rw (validPlan, c) at t))
+    go false true c l = omega (arith, eqb-true (p .kind) 2 l, lots-range p 7 (rw (validPlan, c, l) at t))
+    go false false c l =
+        let fits : Bool = within 1 10000 (p .a) in
+        let blocks : Bool = within 2 200 (p .b) in
+        let outer = both-of (isContinuous p && fits && blocks) (eqb (p .option) 0) (rw (validPlan, c, l) at t) in
+        let middle = both-of (isContinuous p && fits) blocks (outer .0) in
+        let inner = both-of (isContinuous p) fits (middle .0) in
+        let a = within-of 1 10000 (p .a) (holds-of _ (inner .1)) in
+        let b = within-of 2 200 (p .b) (holds-of _ (middle .1)) in
+        omega (arith, eqb→eq (p .kind) 3 (inner .0), eqb→eq (p .option) 0 (outer .1))
+
+pub record ContinuousPlan (p : Plan) : Type 0 where
+  pub clearance : 1 ≤ p .a
+  pub clearanceMost : p .a ≤ 10000
+  pub interval : 2 ≤ p .b
+  pub intervalMost : p .b ≤ 200
+
+pub continuous-plan : (p : Plan) → T (validPlan p) → isContinuous p ≡ true → ContinuousPlan p
+unfolding validPlan isCredit isLevel isContinuous
+continuous-plan p valid e =
+    let kind : p .kind ≡ 3 = eqb-true (p .kind) 3 e in
+    let ranges : T (within 1 10000 (p .a) && within 2 200 (p .b) && eqb (p .option) 0) = rw kind at valid in
+    let numbers = both-of (within 1 10000 (p .a) && within 2 200 (p .b)) (eqb (p .option) 0) ranges in
+    let both = both-of (within 1 10000 (p .a)) (within 2 200 (p .b)) (numbers .0) in
+    let a = within-of 1 10000 (p .a) (holds-of _ (both .0)) in
+    let b = within-of 2 200 (p .b) (holds-of _ (both .1)) in
+    record { clearance = a .0; clearanceMost = a .1; interval = b .0; intervalMost = b .1 }

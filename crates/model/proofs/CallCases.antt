@@ -1,0 +1,122 @@
+-- The cases hold: the definitions are run. Assumes nothing.
+use mathlib.Core.Path.{refl}
+use Rattle.plans.specs.Credit.{roundedUp, sampleDividend, sampleDivisor, creditSample, creditVerdict, creditAfter}
+use Rattle.plans.specs.Verdicts.{acceptedOf, levelVerdict}
+use Rattle.plans.specs.Tables.{table1, lastLetters, lettersIn, codeLetter, table2, columnAt, tabled, levelSample}
+use Rattle.plans.specs.Stops.{setUpChanged, longStop}
+use Rattle.plans.specs.Levels.{
+  levelStart,
+  lengthened,
+  judgedOnTightened,
+  shifted,
+  withheldIn,
+  counted,
+  arrived,
+  afterNormal,
+  afterTightened,
+  afterReduced,
+  levelAfter,
+  moved,
+  judgedLot,
+  metStop,
+}
+use Rattle.plans.specs.Continuous.{screening, sampling, isSampling, afterRun, afterBlock, afterStop}
+use Rattle.little.specs.Little.{bytes, value, part, written}
+use Rattle.model.specs.Stations.{
+  isCredit,
+  isLevel,
+  isContinuous,
+  hasOption,
+  within,
+  validPlan,
+  entryArguments,
+  allWords,
+}
+use Rattle.model.specs.Figuring.{
+  noLevel,
+  started,
+  sampleAsked,
+  verdictOn,
+  acceptedBy,
+  creditStep,
+  levelStep,
+  continuousStep,
+  isLot,
+  labelOf,
+  stepped,
+  figuresOf,
+}
+use Rattle.model.specs.Calls.{
+  firstOf,
+  isDiscontinued,
+  isFull,
+  sameLabel,
+  sizeInRange,
+  countsAgree,
+  entryRefusals,
+  refusals,
+  refusalOf,
+  lotFigure,
+  readFigure,
+  entryAnswer,
+  kindOf,
+  newestKind,
+  answerOf,
+  withoutNewest,
+  changed,
+  call,
+  admissible,
+  admissibleStation,
+}
+use Rattle.model.specs.Area.{
+  planBytes,
+  figureBytes,
+  recordBytes,
+  recordOf,
+  recordsOf,
+  areaOf,
+  planIn,
+  countIn,
+  entryIn,
+  entriesIn,
+  stationIn,
+  sameBytes,
+  reading,
+  onArea,
+}
+use Rattle.model.specs.Store.{fresh, areaAt, onStream, onStore, storeAfter, answersTo}
+use Rattle.model.specs.Claims.{onAll}
+use Rattle.model.specs.Cases.{
+  callsOf,
+  answersOf,
+  frameCase,
+  creditCase,
+  levelCase,
+  strictCase,
+  continuousCase,
+  acceptedLots,
+  reducedCase,
+  wrongLots,
+  takenBack,
+  discontinuedCase,
+  creditBytes,
+  levelBytes,
+  continuousBytes,
+  CasesHold,
+}
+
+pub cases-hold : CasesHold
+unfolding
+    roundedUp sampleDividend sampleDivisor creditSample creditVerdict creditAfter acceptedOf levelVerdict
+    table1 lastLetters lettersIn codeLetter table2 columnAt tabled levelSample setUpChanged longStop
+    levelStart lengthened judgedOnTightened shifted withheldIn counted arrived afterNormal afterTightened afterReduced
+    levelAfter moved judgedLot metStop screening sampling isSampling afterRun afterBlock afterStop bytes value part written
+    isCredit isLevel isContinuous hasOption within validPlan entryArguments allWords
+    noLevel started sampleAsked verdictOn acceptedBy creditStep levelStep continuousStep isLot labelOf stepped figuresOf
+    firstOf isDiscontinued isFull sameLabel sizeInRange countsAgree entryRefusals refusals refusalOf lotFigure readFigure
+    entryAnswer kindOf newestKind answerOf withoutNewest changed call admissible admissibleStation
+    planBytes figureBytes recordBytes recordOf recordsOf areaOf planIn countIn entryIn entriesIn stationIn sameBytes
+    reading onArea fresh areaAt onStream onStore storeAfter answersTo onAll callsOf answersOf
+    frameCase creditCase levelCase strictCase continuousCase acceptedLots reducedCase wrongLots takenBack discontinuedCase
+    creditBytes levelBytes continuousBytes
+cases-hold = (refl, refl, refl, refl, refl, refl, refl, refl, refl, (refl, refl), (refl, refl, refl))

@@ -1,0 +1,9 @@
+use Rattle.model.proofs.EveryList.{every-list}
+use Rattle.model.proofs.claims.every_list_of_calls.Statement.{statement}
+use Rattle.model.proofs.claims.every_list_of_calls.Tie as tie
+
+returns : tie.Need-returns
+returns c = every-list
+
+pub every-list-of-calls-spec : {M : Type 1} → statement M
+every-list-of-calls-spec = tie.close (tie.spec returns)

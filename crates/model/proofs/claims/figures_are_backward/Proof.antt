@@ -1,0 +1,10 @@
+use Rattle.model.proofs.Keeping.{plan-of, entries-of}
+use Rattle.model.proofs.Stored.{figures-backward}
+use Rattle.model.proofs.claims.figures_are_backward.Statement.{statement}
+use Rattle.model.proofs.claims.figures_are_backward.Tie as tie
+
+returns : tie.Need-returns
+returns c p es t = figures-backward p es (plan-of p es t) (entries-of p es t)
+
+pub figures-are-backward-spec : {M : Type 1} → statement M
+figures-are-backward-spec = tie.close (tie.spec returns)

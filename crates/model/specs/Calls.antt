@@ -1,0 +1,194 @@
+-- The eight calls on a station: paper 01, "Calls". Assumes nothing.
+use Prim.Native.Nat.{ℕ, _+_, _-_}
+use mathlib.Core.Bool.{Bool, true, false, cond, not, _&&_, _||_}
+use mathlib.Core.List.{List, [], _∷_}
+use lib.Dec.{eqb, ltb, leb}
+use lib.ListN.{length}
+use Rattle.plans.specs.Verdicts.{lotHeard, lotWithheld}
+use Rattle.plans.specs.Severities.{discontinued}
+use Rattle.plans.specs.Continuous.{isSampling, afterBlock}
+use Rattle.model.specs.declared.Plan.{Plan}
+use Rattle.model.specs.declared.Entry.{Entry}
+use Rattle.model.specs.declared.Entry.the-variants.{Lot, Run, Block, Stop}
+use Rattle.model.specs.declared.Call.{Call}
+use Rattle.model.specs.declared.Call.the-variants.{Open, Enter, Back, Ask, Read}
+use Rattle.model.specs.declared.Figures.{Figures}
+use Rattle.model.specs.declared.Answer.{Answer}
+use Rattle.model.specs.Sizes.{mostRecords}
+use Rattle.model.specs.Stations.{Station, unopened, opened, isCredit, isLevel, isContinuous, within, validPlan, allWords, entryArguments}
+use Rattle.model.specs.Figuring.{sampleAsked, verdictOn, acceptedBy, stepped, figuresOf}
+
+-- a refusal: it applies, and its number
+pub record Refusal : Type 0 where
+  pub applies : Bool
+  pub number : ℕ
+
+abbrev pub refuse : ℕ → Bool → Refusal
+refuse n test = record { applies = test; number = n }
+
+-- the first that applies is given, 0 where none does
+unfoldable pub firstOf : List Refusal → ℕ
+firstOf [] = 0
+firstOf (r ∷ rs) = cond (r .applies) (r .number) (firstOf rs)
+
+-- 8: the stream is discontinued
+unfoldable pub isDiscontinued : Figures → Bool
+isDiscontinued f = eqb (f .level .level) discontinued
+
+-- 9: 128 records stand
+unfoldable pub isFull : ℕ → Bool
+isFull count = leb mostRecords count
+
+-- 10: the label equals the newest standing lot's
+unfoldable pub sameLabel : Figures → ℕ → Bool
+sameLabel f label = f .labelled && eqb label (f .label)
+
+-- 11: N from 1 (level: 2) to 1,000,000
+unfoldable pub sizeInRange : Plan → ℕ → Bool
+sizeInRange p N = within (cond (isLevel p) 2 1) 1000000 N
+
+-- 13: d is at most n; without a wrong one in the sample there is none in all that was heard; of a lot heard whole D is from d to
+-- N - n + d, and of one returned or withheld it is d
+unfoldable pub countsAgree : ℕ → ℕ → ℕ → ℕ → ℕ → Bool
+countsAgree verdict N n d D =
+    leb d n
+    && (not (eqb d 0) || eqb D 0)
+    && (not (eqb verdict lotHeard) || within d (N - n + d) D)
+    && (not (eqb verdict lotWithheld) || eqb D d)
+
+-- the refusals of a call that enters something, in the paper's order, with figures f and so many standing records
+unfoldable pub entryRefusals : Plan → Figures → ℕ → Entry → List Refusal
+entryRefusals p f count (Lot label N n d D) =
+    refuse 7 (isContinuous p)
+    ∷ refuse 8 (isDiscontinued f)
+    ∷ refuse 9 (isFull count)
+    ∷ refuse 10 (sameLabel f label)
+    ∷ refuse 11 (not (sizeInRange p N))
+    ∷ refuse 12 (not (eqb n (sampleAsked p f N)))
+    ∷ refuse 13 (not (countsAgree (verdictOn p f d) N n d D))
+    ∷ []
+entryRefusals p f count (Run h w) =
+    refuse 7 (not (isContinuous p))
+    ∷ refuse 9 (isFull count)
+    ∷ refuse 15 (ltb 10000 h || ltb 1 w || eqb (h + w) 0)
+    ∷ refuse 14 (isSampling (f .continuous) || ltb (p .a) (f .continuous .count + h + w))
+    ∷ []
+entryRefusals p f count (Block q w) =
+    refuse 7 (not (isContinuous p))
+    ∷ refuse 9 (isFull count)
+    ∷ refuse 15 (not (within 1 (p .b) q) || ltb 1 w)
+    ∷ refuse 14 (not (isSampling (f .continuous)))
+    ∷ []
+entryRefusals p f count (Stop why days) =
+    refuse 8 (isDiscontinued f)
+    ∷ refuse 9 (isFull count)
+    ∷ refuse 15 (not (within 1 2 why) || ltb 255 days || (eqb why 2 && ltb 0 days))
+    ∷ []
+
+-- the refusals of every call on a station
+unfoldable pub refusals : Station → Call → List Refusal
+refusals unopened (Open q) = refuse 5 (not (validPlan q)) ∷ []
+refusals unopened (Enter e) = refuse 6 true ∷ []
+refusals unopened Back = refuse 6 true ∷ []
+refusals unopened (Ask N) = refuse 6 true ∷ []
+refusals unopened Read = refuse 6 true ∷ []
+refusals (opened p es) (Open q) = refuse 4 true ∷ refuse 5 (not (validPlan q)) ∷ []
+refusals (opened p es) (Enter e) = entryRefusals p (figuresOf p es) (length es) e
+refusals (opened p es) Back = refuse 16 (eqb (length es) 0) ∷ []
+refusals (opened p es) (Ask N) =
+    refuse 7 (isContinuous p)
+    ∷ refuse 8 (isDiscontinued (figuresOf p es))
+    ∷ refuse 11 (not (sizeInRange p N))
+    ∷ []
+refusals (opened p es) Read = []
+
+unfoldable pub refusalOf : Station → Call → ℕ
+refusalOf st c = firstOf (refusals st c)
+
+-- the three numbers of an answer that is no refusal
+abbrev pub gives : ℕ → ℕ → ℕ → Answer
+gives a b c = record { refusal = 0; first = a; second = b; third = c }
+
+abbrev pub refused : ℕ → Answer
+refused n = record { refusal = n; first = 0; second = 0; third = 0 }
+
+-- credit, or level
+unfoldable pub lotFigure : Plan → Figures → ℕ
+lotFigure p f = cond (isCredit p) (f .credit .0) (f .level .level)
+
+-- credit, or level, or c, in sampling 65,536 + u
+unfoldable pub readFigure : Plan → Figures → ℕ
+readFigure p f =
+    cond (isContinuous p)
+    (cond (isSampling (f .continuous)) (65536 + f .continuous .tail) (f .continuous .count))
+    (lotFigure p f)
+
+-- what an entry gives, from the figures before it
+unfoldable pub entryAnswer : Plan → Figures → Entry → Answer
+entryAnswer p f (Lot label N n d D) =
+    gives (verdictOn p f d) (acceptedBy p f (Lot label N n d D)) (lotFigure p (stepped p (Lot label N n d D) f))
+entryAnswer p f (Run h w) = gives (acceptedBy p f (Run h w)) (stepped p (Run h w) f .continuous .phase) 0
+entryAnswer p f (Block q w) =
+    gives (acceptedBy p f (Block q w))
+    (afterBlock (p .b) q (eqb w 1) (f .continuous) .«hear_back»)
+    (stepped p (Block q w) f .continuous .phase)
+entryAnswer p f (Stop why days) = gives 0 0 0
+
+-- a record's kind
+unfoldable pub kindOf : Entry → ℕ
+kindOf (Lot label N n d D) = 1
+kindOf (Run h w) = 2
+kindOf (Block q w) = 3
+kindOf (Stop why days) = 4
+
+unfoldable pub newestKind : List Entry → ℕ
+newestKind [] = 0
+newestKind (e ∷ es) = kindOf e
+
+-- what an accepted call gives
+unfoldable pub answerOf : Station → Call → Answer
+answerOf unopened c = gives 0 0 0
+answerOf (opened p es) (Open q) = gives 0 0 0
+answerOf (opened p es) (Enter e) = entryAnswer p (figuresOf p es) e
+answerOf (opened p es) Back = gives (newestKind es) 0 0
+answerOf (opened p es) (Ask N) = gives (sampleAsked p (figuresOf p es) N) 0 0
+answerOf (opened p es) Read = gives (length es) (figuresOf p es .accepted) (readFigure p (figuresOf p es))
+
+unfoldable pub withoutNewest : List Entry → List Entry
+withoutNewest [] = []
+withoutNewest (e ∷ es) = es
+
+-- the station after an accepted call
+unfoldable pub changed : Station → Call → Station
+changed unopened (Open q) = opened q []
+changed unopened (Enter e) = unopened
+changed unopened Back = unopened
+changed unopened (Ask N) = unopened
+changed unopened Read = unopened
+changed (opened p es) (Open q) = opened p es
+changed (opened p es) (Enter e) = opened p (e ∷ es)
+changed (opened p es) Back = opened p (withoutNewest es)
+changed (opened p es) (Ask N) = opened p es
+changed (opened p es) Read = opened p es
+
+-- a call on a station: its answer, and the station after it. A refusal gives three zeros and changes nothing
+pub record Outcome : Type 0 where
+  pub answer : Answer
+  pub station : Station
+
+unfoldable pub call : Station → Call → Outcome
+call st c =
+    record {
+      answer = cond (eqb (refusalOf st c) 0) (answerOf st c) (refused (refusalOf st c));
+      station = cond (eqb (refusalOf st c) 0) (changed st c) st;
+    }
+
+-- the standing entries that calls could have left: each was accepted after those before it
+unfoldable pub admissible : Plan → List Entry → Bool
+admissible p [] = true
+admissible p (e ∷ es) =
+    admissible p es && eqb (firstOf (entryRefusals p (figuresOf p es) (length es) e)) 0 && allWords (entryArguments e)
+
+unfoldable pub admissibleStation : Station → Bool
+admissibleStation unopened = true
+admissibleStation (opened p es) = validPlan p && admissible p es

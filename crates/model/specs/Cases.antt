@@ -1,0 +1,227 @@
+-- Cases worked out by hand from paper 01, as calls on stream 0 of a fresh store with their answers: its frame case, its table of proved
+-- cases, and the rules that are easily got wrong. Document 000's Table 2 gives 50 for the paper's 48, and 25 for its 24.
+-- Assumes nothing.
+use Prim.Native.Nat.{ℕ, zero, suc, _-_}
+use mathlib.Core.Path.{_≡_}
+use mathlib.Core.List.{List, [], _∷_, _++_}
+use lib.ListN.{length, replicate}
+use Rattle.model.specs.declared.Plan.{Plan}
+use Rattle.model.specs.declared.Entry.{Entry}
+use Rattle.model.specs.declared.Entry.the-variants.{Lot, Run, Block, Stop}
+use Rattle.model.specs.declared.Call.{Call}
+use Rattle.model.specs.declared.Call.the-variants.{Open, Enter, Back, Ask, Read}
+use Rattle.model.specs.declared.Answer.{Answer}
+use Rattle.model.specs.Sizes.{areaLength}
+use Rattle.model.specs.Stations.{opened}
+use Rattle.model.specs.Calls.{refusalOf, gives, refused}
+use Rattle.model.specs.Area.{zeros}
+use Rattle.model.specs.Store.{fresh, areaAt, storeAfter, answersTo}
+use Rattle.model.specs.Claims.{onAll}
+
+infix 80 _⇒_
+-- a call, and what it gives
+pub record Step : Type 0 where
+  pub made : Call
+  pub answer : Answer
+
+abbrev pub _⇒_ : Call → Answer → Step
+c ⇒ a = record { made = c; answer = a }
+
+unfoldable pub callsOf : List Step → List Call
+callsOf [] = []
+callsOf (s ∷ steps) = s .made ∷ callsOf steps
+
+unfoldable pub answersOf : List Step → List Answer
+answersOf [] = []
+answersOf (s ∷ steps) = s .answer ∷ answersOf steps
+
+-- the calls, one after the other on a fresh store, give these answers
+abbrev pub Gives : List Step → Type 0
+Gives steps = answersTo fresh (onAll 0 (callsOf steps)) ≡ answersOf steps
+
+abbrev pub start : ℕ → ℕ → ℕ → ℕ → Call
+start kind option a b = Open (record { kind = kind; option = option; a = a; b = b })
+
+abbrev pub lot : ℕ → ℕ → ℕ → ℕ → ℕ → Call
+lot label N n d D = Enter (Lot label N n d D)
+
+abbrev pub run : ℕ → ℕ → Call
+run h w = Enter (Run h w)
+
+abbrev pub block : ℕ → ℕ → Call
+block p w = Enter (Block p w)
+
+abbrev pub stop : ℕ → ℕ → Call
+stop why days = Enter (Stop why days)
+
+-- "Hexadecimal frames", the whole case
+unfoldable pub frameCase : List Step
+frameCase =
+    start 1 0 15000 0 ⇒ gives 0 0 0
+    ∷ lot 1 201 51 0 0 ⇒ gives 1 201 201
+    ∷ Ask 192 ⇒ gives 28 0 0
+    ∷ Back ⇒ gives 1 0 0
+    ∷ []
+
+-- "Table of proved cases"
+
+unfoldable pub creditCase : List Step
+creditCase =
+    start 1 0 10000 0 ⇒ gives 0 0 0
+    ∷ Ask 50 ⇒ gives 34 0 0
+    ∷ Ask 9900 ⇒ gives 99 0 0
+    ∷ Ask 9901 ⇒ gives 100 0 0
+    ∷ Ask 1 ⇒ gives 1 0 0
+    ∷ lot 1 200 67 0 0 ⇒ gives 1 200 200
+    ∷ Ask 50 ⇒ gives 15 0 0
+    ∷ []
+
+unfoldable pub levelCase : List Step
+levelCase =
+    start 2 0 2 0 ⇒ gives 0 0 0
+    ∷ Ask 800 ⇒ gives 20 0 0
+    ∷ Ask 961 ⇒ gives 25 0 0
+    ∷ lot 1 800 20 1 1 ⇒ gives 3 0 1
+    ∷ lot 2 800 20 1 1 ⇒ gives 3 0 2
+    ∷ Ask 800 ⇒ gives 50 0 0
+    ∷ []
+
+unfoldable pub strictCase : List Step
+strictCase = start 2 0 7 0 ⇒ gives 0 0 0 ∷ Ask 2 ⇒ gives 2 0 0 ∷ Ask 1 ⇒ refused 11 ∷ []
+
+unfoldable pub continuousCase : List Step
+continuousCase =
+    start 3 0 116 48 ⇒ gives 0 0 0
+    ∷ run 116 0 ⇒ gives 116 1 0
+    ∷ block 10 0 ⇒ gives 48 0 1
+    ∷ block 5 1 ⇒ gives 4 42 0
+    ∷ Read ⇒ gives 3 168 0
+    ∷ []
+
+-- so many accepted lots of five, on normal
+unfoldable pub acceptedLots : ℕ → List Step
+acceptedLots zero = []
+acceptedLots (suc i) = acceptedLots i ++ (lot i 5 5 0 0 ⇒ gives 1 5 1 ∷ [])
+
+-- reduced after ten accepted in a row, where option 1 permits it; the withheld lot that ends reduced leads to normal and stays in the
+-- window, so that the next one leads to tightened
+unfoldable pub reducedCase : List Step
+reducedCase =
+    (start 2 1 2 0 ⇒ gives 0 0 0 ∷ acceptedLots 9)
+    ++ (lot 10 5 5 0 0 ⇒ gives 1 5 0
+    ∷ Ask 800 ⇒ gives 8 0 0
+    ∷ lot 11 5 5 1 1 ⇒ gives 3 0 1
+    ∷ lot 12 5 5 1 1 ⇒ gives 3 0 2
+    ∷ [])
+
+-- credit is lost with every wrong lot, and the verdict is by the credit before it
+unfoldable pub wrongLots : List Step
+wrongLots =
+    start 1 0 15000 0 ⇒ gives 0 0 0
+    ∷ lot 1 201 51 0 0 ⇒ gives 1 201 201
+    ∷ lot 2 192 28 1 1 ⇒ gives 3 0 0
+    ∷ lot 3 192 50 1 7 ⇒ gives 2 185 0
+    ∷ Read ⇒ gives 3 386 0
+    ∷ Ask 192 ⇒ gives 50 0 0
+    ∷ []
+
+-- a take-back restores what stood before
+unfoldable pub takenBack : List Step
+takenBack =
+    start 3 0 10 4 ⇒ gives 0 0 0
+    ∷ run 10 0 ⇒ gives 10 1 0
+    ∷ block 1 0 ⇒ gives 4 0 1
+    ∷ Read ⇒ gives 2 14 65539
+    ∷ block 3 1 ⇒ gives 2 5 0
+    ∷ Read ⇒ gives 3 16 0
+    ∷ Back ⇒ gives 3 0 0
+    ∷ Read ⇒ gives 2 14 65539
+    ∷ []
+
+-- on tightened, the ninth lot without five accepted in a row does not yet discontinue; the tenth does, and can be taken back
+unfoldable pub discontinuedCase : List Step
+discontinuedCase =
+    start 2 0 1 0 ⇒ gives 0 0 0
+    ∷ lot 0 5 5 1 1 ⇒ gives 3 0 1
+    ∷ lot 1 5 5 1 1 ⇒ gives 3 0 2
+    ∷ lot 2 5 5 1 1 ⇒ gives 3 0 2
+    ∷ lot 3 5 5 0 0 ⇒ gives 1 5 2
+    ∷ lot 4 5 5 0 0 ⇒ gives 1 5 2
+    ∷ lot 5 5 5 0 0 ⇒ gives 1 5 2
+    ∷ lot 6 5 5 0 0 ⇒ gives 1 5 2
+    ∷ lot 7 5 5 1 1 ⇒ gives 3 0 2
+    ∷ lot 8 5 5 1 1 ⇒ gives 3 0 2
+    ∷ lot 9 5 5 1 1 ⇒ gives 3 0 2
+    ∷ lot 10 5 5 1 1 ⇒ gives 3 0 2
+    ∷ lot 11 5 5 1 1 ⇒ gives 3 0 3
+    ∷ lot 12 5 5 0 0 ⇒ refused 8
+    ∷ stop 1 0 ⇒ refused 8
+    ∷ Ask 5 ⇒ refused 8
+    ∷ run 1 0 ⇒ refused 7
+    ∷ Back ⇒ gives 1 0 0
+    ∷ lot 12 5 5 0 0 ⇒ gives 1 5 3
+    ∷ []
+
+-- a credit stream with so many stops takes one more until 128 records stand
+abbrev pub stops : ℕ → List Entry
+stops n = replicate n (Stop 1 0)
+
+abbrev pub somePlan : Plan
+somePlan = record { kind = 1; option = 0; a = 1; b = 0 }
+
+abbrev pub FullAt128 : Type 0
+FullAt128 =
+    (refusalOf (opened somePlan (stops 127)) (stop 1 0) ≡ 0) × (refusalOf (opened somePlan (stops 128)) (stop 1 0) ≡ 9)
+
+-- "The store", byte for byte: the area after the calls starts with these bytes, and has zeros behind them
+
+abbrev pub Leaves : List Call → List ℕ → Type 0
+Leaves calls bytes =
+    areaAt 0 (storeAfter fresh (onAll 0 calls)) ≡ bytes ++ zeros (areaLength - length bytes)
+
+unfoldable pub creditBytes : List ℕ
+creditBytes =
+    1 ∷ 0 ∷ 1 ∷ 0 ∷ 152 ∷ 58 ∷ 0 ∷ 0 ∷ 0 ∷ 0 ∷ 0 ∷ 0 ∷ 0 ∷ 0 ∷ 0 ∷ 0
+    ∷ 201 ∷ 0 ∷ 0 ∷ 0 ∷ 0 ∷ 0 ∷ 0 ∷ 0 ∷ 0 ∷ 0 ∷ 0 ∷ 0 ∷ 0 ∷ 0 ∷ 0 ∷ 0
+    ∷ 201 ∷ 0 ∷ 0 ∷ 0 ∷ 0 ∷ 0 ∷ 0 ∷ 0 ∷ 0 ∷ 0 ∷ 0 ∷ 0 ∷ 0 ∷ 0 ∷ 0 ∷ 0
+    ∷ 1 ∷ 0 ∷ 0 ∷ 0 ∷ 1 ∷ 0 ∷ 0 ∷ 0 ∷ 201 ∷ 0 ∷ 0 ∷ 0 ∷ 0 ∷ 0 ∷ 0 ∷ 0 ∷ 0 ∷ 0 ∷ 0 ∷ 0
+    ∷ []
+
+unfoldable pub levelBytes : List ℕ
+levelBytes =
+    2 ∷ 1 ∷ 1 ∷ 0 ∷ 2 ∷ 0 ∷ 0 ∷ 0 ∷ 0 ∷ 0 ∷ 0 ∷ 0 ∷ 0 ∷ 0 ∷ 0 ∷ 0
+    ∷ 0 ∷ 0 ∷ 0 ∷ 0 ∷ 1 ∷ 0 ∷ 0 ∷ 1 ∷ 0 ∷ 0 ∷ 0 ∷ 0 ∷ 0 ∷ 0 ∷ 0 ∷ 0
+    ∷ 0 ∷ 0 ∷ 0 ∷ 0 ∷ 0 ∷ 0 ∷ 0 ∷ 0 ∷ 0 ∷ 0 ∷ 0 ∷ 0 ∷ 0 ∷ 0 ∷ 0 ∷ 0
+    ∷ 1 ∷ 0 ∷ 0 ∷ 0 ∷ 7 ∷ 0 ∷ 0 ∷ 0 ∷ 44 ∷ 1 ∷ 0 ∷ 0 ∷ 1 ∷ 0 ∷ 0 ∷ 0 ∷ 1 ∷ 0 ∷ 0 ∷ 0
+    ∷ []
+
+unfoldable pub continuousBytes : List ℕ
+continuousBytes =
+    3 ∷ 0 ∷ 3 ∷ 0 ∷ 10 ∷ 0 ∷ 0 ∷ 0 ∷ 4 ∷ 0 ∷ 0 ∷ 0 ∷ 0 ∷ 0 ∷ 0 ∷ 0
+    ∷ 0 ∷ 0 ∷ 0 ∷ 0 ∷ 0 ∷ 0 ∷ 0 ∷ 0 ∷ 0 ∷ 0 ∷ 0 ∷ 0 ∷ 1 ∷ 0 ∷ 3 ∷ 0
+    ∷ 14 ∷ 0 ∷ 0 ∷ 0 ∷ 0 ∷ 0 ∷ 0 ∷ 0 ∷ 0 ∷ 0 ∷ 0 ∷ 0 ∷ 0 ∷ 0 ∷ 0 ∷ 0
+    ∷ 2 ∷ 0 ∷ 0 ∷ 0 ∷ 10 ∷ 0 ∷ 0 ∷ 0 ∷ 0 ∷ 0 ∷ 0 ∷ 0 ∷ 0 ∷ 0 ∷ 0 ∷ 0 ∷ 0 ∷ 0 ∷ 0 ∷ 0
+    ∷ 3 ∷ 0 ∷ 0 ∷ 0 ∷ 1 ∷ 0 ∷ 0 ∷ 0 ∷ 0 ∷ 0 ∷ 0 ∷ 0 ∷ 0 ∷ 0 ∷ 0 ∷ 0 ∷ 0 ∷ 0 ∷ 0 ∷ 0
+    ∷ 4 ∷ 1 ∷ 0 ∷ 0 ∷ 2 ∷ 0 ∷ 0 ∷ 0 ∷ 0 ∷ 0 ∷ 0 ∷ 0 ∷ 0 ∷ 0 ∷ 0 ∷ 0 ∷ 0 ∷ 0 ∷ 0 ∷ 0
+    ∷ []
+
+abbrev pub BytesHold : Type 0
+BytesHold =
+    Leaves (start 1 0 15000 0 ∷ lot 1 201 51 0 0 ∷ []) creditBytes
+    × Leaves (start 2 1 2 0 ∷ lot 7 300 16 1 1 ∷ []) levelBytes
+    × Leaves (start 3 0 10 4 ∷ run 10 0 ∷ block 1 0 ∷ stop 1 2 ∷ []) continuousBytes
+
+-- every case, as one claim
+abbrev pub CasesHold : Type 0
+CasesHold =
+    Gives frameCase
+    × Gives creditCase
+    × Gives levelCase
+    × Gives strictCase
+    × Gives continuousCase
+    × Gives reducedCase
+    × Gives wrongLots
+    × Gives takenBack
+    × Gives discontinuedCase
+    × FullAt128
+    × BytesHold

@@ -1,0 +1,162 @@
+-- What is claimed of the definitions, and proved in proofs/. Assumes nothing.
+use Prim.Native.Nat.{ℕ, _+_, _<_, _≤_}
+use mathlib.Core.Path.{_≡_}
+use mathlib.Core.Logic.{_⊎_}
+use mathlib.Core.Bool.{Bool, true, false, cond, _&&_}
+use mathlib.Core.List.{List, [], _∷_, _++_}
+use lib.Dec.{T, eqb}
+use lib.ListN.{length, getD}
+use Rattle.little.specs.Little.{value, part}
+use Rattle.model.specs.declared.Plan.{Plan}
+use Rattle.model.specs.declared.Entry.{Entry}
+use Rattle.model.specs.declared.Call.{Call}
+use Rattle.model.specs.declared.Call.the-variants.{Open, Enter, Back, Ask, Read}
+use Rattle.model.specs.declared.Answer.{Answer}
+use Rattle.model.specs.Sizes.{areaLength, streams, startOf}
+use Rattle.model.specs.Stations.{
+  Station,
+  unopened,
+  opened,
+  isCredit,
+  isLevel,
+  isContinuous,
+  arguments,
+  allWords,
+}
+use Rattle.model.specs.Calls.{refusalOf, refused, call}
+use Rattle.model.specs.Area.{zeros, areaOf, reading, holds}
+use Rattle.model.specs.Store.{Request, fresh, areaAt, onStore, storeAfter, answersTo}
+use Rattle.model.specs.Backward.{creditBack, windowBack, countBack, phaseBack, tailBack}
+
+-- Soundness. "An area is sound when it is all zero, or when some list of accepted calls below, begun on an all-zero one, leaves
+-- exactly it."
+
+unfoldable pub stationAfter : Station → List Call → Station
+stationAfter st [] = st
+stationAfter st (c ∷ cs) = stationAfter (call st c .station) cs
+
+-- each call of a list, with 32-bit arguments, is accepted
+unfoldable pub allAccepted : Station → List Call → Bool
+allAccepted st [] = true
+allAccepted st (c ∷ cs) =
+    eqb (refusalOf st c) 0 && allWords (arguments c) && allAccepted (call st c .station) cs
+
+unfoldable pub Sound : List ℕ → Type 0
+Sound area =
+    (area ≡ zeros areaLength)
+    ⊎ ((cs : List Call) × T (allAccepted unopened cs) × (areaOf (stationAfter unopened cs) ≡ area))
+
+-- the reading decides soundness, and gives the one station that calls can have left there
+pub record DecidesSoundness (area : List ℕ) : Type 0 where
+  pub ofSound : Sound area → (st : Station) × (reading area ≡ holds st)
+  pub soundOf : (st : Station) → reading area ≡ holds st → Sound area
+  pub onlyOne : (cs : List Call) → T (allAccepted unopened cs) → areaOf (stationAfter unopened cs) ≡ area
+      → reading area ≡ holds (stationAfter unopened cs)
+
+-- Demand 1. A refusal gives three zeros and leaves the store; a call changes no byte outside its own area, and reads no other:
+-- another store of the same length with the same area there gives the same answer and the same area after
+pub record KeepsToItsArea (store : List ℕ) (r : Request) : Type 0 where
+  pub refusal : (onStore store r .answer .refusal ≡ 0 → ⊥)
+      → onStore store r ≡ record { answer = refused (onStore store r .answer .refusal); store = store }
+  pub sameLength : length (onStore store r .store) ≡ length store
+  pub elsewhere : (i : ℕ) → (i < startOf (r .stream)) ⊎ (startOf (r .stream) + areaLength ≤ i)
+      → getD (onStore store r .store) i 0 ≡ getD store i 0
+  pub readsNoOther : (other : List ℕ) → length other ≡ length store → areaAt (r .stream) other ≡ areaAt (r .stream) store
+      → (onStore other r .answer ≡ onStore store r .answer)
+      × (areaAt (r .stream) (onStore other r .store) ≡ areaAt (r .stream) (onStore store r .store))
+
+-- The figures in an area are those worked out backwards from the standing entries; figures foreign to the plan are zero
+pub record FiguresBackward (p : Plan) (es : List Entry) (area : List ℕ) : Type 0 where
+  pub credit : value (part 16 4 area) ≡ cond (isCredit p) (creditBack es) 0
+  pub window : getD area 23 0 ≡ cond (isLevel p) (windowBack es) 0
+  pub count : value (part 24 4 area) ≡ cond (isContinuous p) (countBack (p .a) es) 0
+  pub phase : getD area 28 0 ≡ cond (isContinuous p) (phaseBack (p .a) es) 0
+  pub tail : value (part 30 2 area) ≡ cond (isContinuous p) (tailBack (p .a) (p .b) es) 0
+  pub noLevel : isLevel p ≡ false → part 20 4 area ≡ zeros 4
+
+unfoldable pub StationBackward : Station → List ℕ → Type 0
+StationBackward unopened area = area ≡ zeros areaLength
+StationBackward (opened p es) area = FiguresBackward p es area
+
+-- Demand 3. "A stream's standing list is read off the calls on that stream, their arguments and refusal numbers."
+
+-- a call that was made, and the refusal number that it got
+pub record Made : Type 0 where
+  pub request : Request
+  pub refusal : ℕ
+
+unfoldable pub history : List ℕ → List Request → List Made
+history store [] = []
+history store (r ∷ rs) =
+    record { request = r; refusal = onStore store r .answer .refusal } ∷ history (onStore store r .store) rs
+
+-- "The list is empty before Open and when opened; an accepted Lot, Run, Block or Stop is appended with all its arguments; an
+-- accepted take-back removes the newest; refused calls, asks and reads leave it."
+unfoldable pub afterAccepted : Call → Station → Station
+afterAccepted (Open q) st = opened q []
+afterAccepted (Enter e) unopened = unopened
+afterAccepted (Enter e) (opened p es) = opened p (e ∷ es)
+afterAccepted Back unopened = unopened
+afterAccepted Back (opened p []) = opened p []
+afterAccepted Back (opened p (e ∷ es)) = opened p es
+afterAccepted (Ask N) st = st
+afterAccepted Read st = st
+
+unfoldable pub afterMade : ℕ → Made → Station → Station
+afterMade stream m st =
+    cond (eqb (m .request .stream) stream && eqb (m .refusal) 0) (afterAccepted (m .request .made) st) st
+
+-- the stream's accepted Open and its standing entries, after what was made, oldest first
+unfoldable pub standing : ℕ → Station → List Made → Station
+standing stream st [] = st
+standing stream st (m ∷ ms) = standing stream (afterMade stream m st) ms
+
+-- "The other store": the accepted Open, if the stream was opened, then the standing entries, oldest first, each by the call and with
+-- the arguments that entered it
+
+abbrev pub on : ℕ → Call → Request
+on stream c = record { stream = stream; made = c }
+
+unfoldable pub entered : ℕ → List Entry → List Request
+entered stream [] = []
+entered stream (e ∷ es) = entered stream es ++ (on stream (Enter e) ∷ [])
+
+unfoldable pub remade : ℕ → Station → List Request
+remade stream unopened = []
+remade stream (opened p es) = on stream (Open p) ∷ entered stream es
+
+unfoldable pub AllTaken : List Answer → Type 0
+AllTaken [] = Unit {0}
+AllTaken (a ∷ rest) = (a .refusal ≡ 0) × AllTaken rest
+
+unfoldable pub onAll : ℕ → List Call → List Request
+onAll stream [] = []
+onAll stream (c ∷ cs) = on stream c ∷ onAll stream cs
+
+unfoldable pub areWords : List Request → Bool
+areWords [] = true
+areWords (r ∷ rs) = allWords (arguments (r .made)) && areWords rs
+
+-- the standing list of a stream after a list of calls from a fresh store
+unfoldable pub standingAfter : ℕ → List Request → Station
+standingAfter stream calls = standing stream unopened (history fresh calls)
+
+-- the store after a list of calls, and the other store for a stream
+unfoldable pub here : List Request → List ℕ
+here calls = storeAfter fresh calls
+
+unfoldable pub there : ℕ → List Request → List ℕ
+there stream calls = storeAfter fresh (remade stream (standingAfter stream calls))
+
+-- the whole area is equal in both stores; each call made on the other store is accepted; whatever calls on the stream follow, each
+-- gives the same whole answer on both; and the figures stored are those worked out backwards from the standing entries
+pub record DemandThree (calls : List Request) (stream : ℕ) : Type 0 where
+  pub sameArea : areaAt stream (here calls) ≡ areaAt stream (there stream calls)
+  pub taken : AllTaken (answersTo fresh (remade stream (standingAfter stream calls)))
+  pub answersAlike : (more : List Call)
+      → answersTo (here calls) (onAll stream more) ≡ answersTo (there stream calls) (onAll stream more)
+  pub backwards : StationBackward (standingAfter stream calls) (areaAt stream (here calls))
+
+-- for every list of calls with 32-bit arguments, and every stream
+abbrev pub EveryList : Type 0
+EveryList = (calls : List Request) → T (areWords calls) → (stream : ℕ) → stream < streams → DemandThree calls stream

@@ -1,0 +1,57 @@
+-- Stations: a plan with Open's arguments, and the standing entries. Paper 01, "The store" and "Calls". Assumes nothing.
+use Prim.Native.Nat.{ℕ, _^_}
+use mathlib.Core.Bool.{Bool, true, cond, _&&_}
+use mathlib.Core.List.{List, [], _∷_}
+use lib.Dec.{eqb, leb, ltb}
+use Rattle.model.specs.declared.Plan.{Plan}
+use Rattle.model.specs.declared.Entry.{Entry}
+use Rattle.model.specs.declared.Entry.the-variants.{Lot, Run, Block, Stop}
+use Rattle.model.specs.declared.Call.{Call}
+use Rattle.model.specs.declared.Call.the-variants.{Open, Enter, Back, Ask, Read}
+
+-- a stream is unopened, or opened with a plan, and then has standing entries, newest first
+pub data Station : Type 0 where
+  unopened : Station
+  opened : Plan → List Entry → Station
+
+unfoldable pub isCredit : Plan → Bool
+isCredit p = eqb (p .kind) 1
+
+unfoldable pub isLevel : Plan → Bool
+isLevel p = eqb (p .kind) 2
+
+unfoldable pub isContinuous : Plan → Bool
+isContinuous p = eqb (p .kind) 3
+
+-- option 1: all of a wrong credit lot is heard; reduced is permitted to a level stream
+unfoldable pub hasOption : Plan → Bool
+hasOption p = eqb (p .option) 1
+
+unfoldable pub within : ℕ → ℕ → ℕ → Bool
+within low high n = leb low n && leb n high
+
+-- "Calls", Open: what 5 leaves. The ranges of A and B by kind; option 0 or 1, in kind 3 only 0
+unfoldable pub validPlan : Plan → Bool
+validPlan p =
+    cond (isCredit p) (within 1 500000 (p .a) && eqb (p .b) 0 && leb (p .option) 1)
+    (cond (isLevel p) (within 1 7 (p .a) && eqb (p .b) 0 && leb (p .option) 1)
+    (isContinuous p && within 1 10000 (p .a) && within 2 200 (p .b) && eqb (p .option) 0))
+
+-- the arguments in the order of "Calls"
+unfoldable pub entryArguments : Entry → List ℕ
+entryArguments (Lot label N n d D) = label ∷ N ∷ n ∷ d ∷ D ∷ []
+entryArguments (Run h w) = h ∷ w ∷ []
+entryArguments (Block q w) = q ∷ w ∷ []
+entryArguments (Stop why days) = why ∷ days ∷ []
+
+unfoldable pub arguments : Call → List ℕ
+arguments (Open p) = p .kind ∷ p .option ∷ p .a ∷ p .b ∷ []
+arguments (Enter e) = entryArguments e
+arguments Back = []
+arguments (Ask N) = N ∷ []
+arguments Read = []
+
+-- arguments are 32-bit numbers
+unfoldable pub allWords : List ℕ → Bool
+allWords [] = true
+allWords (n ∷ ns) = ltb n (2 ^ 32) && allWords ns

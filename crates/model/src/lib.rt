@@ -1,0 +1,66 @@
+// A station, as paper 01 has it: its plan, its standing entries, the figures that follow from them, and the calls on it. The
+// meaning is in specs/; this crate makes no call on a store.
+pub mod claims;
+
+use plans::continuous::Continuous;
+use plans::credit::Credit;
+use plans::level::LevelState;
+
+// Open's arguments.
+pub struct Plan {
+    // 1 credit, 2 level, 3 continuous
+    pub kind: u32,
+    pub option: u32,
+    pub a: u32,
+    pub b: u32,
+}
+
+// What a call enters, with all of its arguments.
+pub enum Entry {
+    Lot {
+        label: u32,
+        size: u32,
+        sample: u32,
+        wrong: u32,
+        wrong_in_all: u32,
+    },
+    Run {
+        right: u32,
+        wrong: u32,
+    },
+    Block {
+        heard: u32,
+        wrong: u32,
+    },
+    Stop {
+        why: u32,
+        days: u32,
+    },
+}
+
+// The eight calls: Open, the four that enter something, Back, Ask and Read.
+pub enum Call {
+    Open(Plan),
+    Enter(Entry),
+    Back,
+    Ask(u32),
+    Read,
+}
+
+// What a call gives: its refusal number, 0 for none, and three numbers.
+pub struct Answer {
+    pub refusal: u32,
+    pub first: u32,
+    pub second: u32,
+    pub third: u32,
+}
+
+// A stream's figures, and the label of its newest standing lot, if one stands.
+pub struct Figures {
+    pub credit: Credit,
+    pub level: LevelState,
+    pub continuous: Continuous,
+    pub accepted: u64,
+    pub labelled: bool,
+    pub label: u32,
+}
