@@ -225,3 +225,15 @@ continuous-plan p valid e =
     let a = within-of 1 10000 (p .a) (holds-of _ (both .0)) in
     let b = within-of 2 200 (p .b) (holds-of _ (both .1)) in
     record { clearance = a .0; clearanceMost = a .1; interval = b .0; intervalMost = b .1 }
+
+-- the verification level of a valid level plan
+pub level-plan : (p : Plan) → T (validPlan p) → isCredit p ≡ false → isContinuous p ≡ false → (1 ≤ p .a) × (p .a ≤ 7)
+unfolding validPlan
+level-plan p valid credit continuous = go (isLevel p) refl
+  where
+    go : (level : Bool) → isLevel p ≡ level → (1 ≤ p .a) × (p .a ≤ 7)
+    go true l =
+        let lots : T (within 1 7 (p .a) && eqb (p .b) 0 && leb (p .option) 1) = rw (validPlan, credit, l) at valid in
+        let outer = both-of (within 1 7 (p .a) && eqb (p .b) 0) (leb (p .option) 1) lots in
+        within-of 1 7 (p .a) (holds-of _ (both-of (within 1 7 (p .a)) (eqb (p .b) 0) (outer .0) .0))
+    go false l = absurd (rw (validPlan, credit, l, continuous) at valid)

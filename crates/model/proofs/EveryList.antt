@@ -249,4 +249,7 @@ every-list calls words stream known =
       backwards =
           station-backward (standing stream unopened (history fresh calls)) (areaAt stream (storeAfter fresh calls)) (holds-here .kept)
           (holds-here .held);
+      standsThere = holds-here .held;
+      byTheRules =
+          λ c. own-answer stream known (storeAfter fresh calls) (standing stream unopened (history fresh calls)) c holds-here;
     }

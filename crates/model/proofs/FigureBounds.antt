@@ -36,9 +36,12 @@ pub record FiguresWithin (n : ℕ) (f : Figures) : Type 0 where
 
 -- ---- one lot, run, block or stop
 
-pub lot-size-within : (p : Plan) (N : ℕ) → sizeInRange p N ≡ true → N ≤ 1000000
+pub lot-size-range : (p : Plan) (N : ℕ) → sizeInRange p N ≡ true → (1 ≤ N) × (N ≤ 1000000)
 unfolding sizeInRange
-lot-size-within p N e = within-of (cond (isLevel p) 2 1) 1000000 N e .1
+lot-size-range p N e =
+    let range = within-of (cond (isLevel p) 2 1) 1000000 N e in
+    let least : 1 ≤ cond (isLevel p) 2 1 = either (λ (x : ℕ). 1 ≤ x) (isLevel p) (omega arith) (omega arith) in
+    (omega arith, range .1)
 
 pub accepted-of-at-most : (verdict N D : ℕ) → acceptedOf verdict N D ≤ N
 unfolding acceptedOf
@@ -100,7 +103,7 @@ module _ (p : Plan) (f : Figures) (n : ℕ) (known : FiguresWithin n f) where
       → FiguresWithin (suc n) (stepped p (Lot label N m d D) f)
   unfolding stepped creditStep levelStep continuousStep acceptedBy isLot labelOf
   lot-entered label N m d D allowed word =
-      let size : N ≤ 1000000 = lot-size-within p N (allowed .size) in
+      let size : N ≤ 1000000 = lot-size-range p N (allowed .size) .1 in
       record {
         credits =
             either (λ (x : ℕ). x ≤ 1000000 * suc n) (isCredit p)

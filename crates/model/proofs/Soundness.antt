@@ -2,7 +2,7 @@
 use Prim.Native.Nat.{ℕ}
 use mathlib.Core.Path.{_≡_, refl, sym, ap, _∙_}
 use mathlib.Core.Logic.{inl, inr}
-use mathlib.Core.Bool.{_&&_}
+use mathlib.Core.Bool.{Bool, true, false, _&&_, and-false}
 use mathlib.Core.List.{List, [], _∷_}
 use lib.Dec.{T, eqb}
 use borrow.Author.Tests.{eq-eqb}
@@ -12,12 +12,14 @@ use Rattle.model.specs.declared.Call.{Call}
 use Rattle.model.specs.declared.Call.the-variants.{Open, Enter}
 use Rattle.model.specs.Stations.{Station, unopened, opened, arguments, allWords}
 use Rattle.model.specs.Calls.{refusals, refusalOf, changed, call, admissible, admissibleStation}
-use Rattle.model.specs.Area.{areaOf, reading, holds}
-use Rattle.model.specs.Claims.{stationAfter, allAccepted, Sound, DecidesSoundness}
+use Rattle.model.specs.Area.{areaOf, reading, holds, onArea}
+use Rattle.model.specs.Claims.{stationAfter, allAccepted, areaAfter, allTakenOn, Sound, DecidesSoundness}
 use Rattle.model.proofs.Booleans.{both, both-of, of-holds}
 use Rattle.model.proofs.Allowed.{newest-of}
 use Rattle.model.proofs.AreaReading.{reading-of-area, area-of-reading}
+use Rattle.model.proofs.OnArea.{on-station}
 use Rattle.model.proofs.Keeping.{
+  answer-refusal,
   accepted-station,
   call-admissible,
   plan-of,
@@ -88,9 +90,43 @@ opened-sound p es h =
           ∙ entering-station p es [] entries),
     )
 
+-- a call on the bytes of a station is the call on the station
+on-its-area : (st : Station) (c : Call) → T (admissibleStation st)
+    → onArea (areaOf st) c ≡ record { answer = call st c .answer; area = areaOf (call st c .station) }
+on-its-area st c h = on-station (areaOf st) st c (reading-of-area st h)
+
+taken-alike : (cs : List Call) (st : Station) → T (admissibleStation st) → allTakenOn (areaOf st) cs ≡ allAccepted st cs
+unfolding allTakenOn allAccepted
+taken-alike [] st h = refl
+taken-alike (c ∷ cs) st h =
+    rw (on-its-area st c h, answer-refusal st c)
+    (go (allWords (arguments c)) refl (λ w. taken-alike cs (call st c .station) (call-admissible st c h w)))
+  where
+    go : (words : Bool) → allWords (arguments c) ≡ words
+        → (T (allWords (arguments c)) → allTakenOn (areaOf (call st c .station)) cs ≡ allAccepted (call st c .station) cs)
+        → eqb (refusalOf st c) 0 && words && allTakenOn (areaOf (call st c .station)) cs
+        ≡ eqb (refusalOf st c) 0 && words && allAccepted (call st c .station) cs
+    go true e later = ap (λ (b : Bool). eqb (refusalOf st c) 0 && true && b) (later (of-holds _ e))
+    go false e later = simp (and-false (eqb (refusalOf st c) 0))
+
+left-alike : (cs : List Call) (st : Station) → T (admissibleStation st) → T (allAccepted st cs)
+    → areaAfter (areaOf st) cs ≡ areaOf (stationAfter st cs)
+unfolding areaAfter stationAfter
+left-alike [] st h t = refl
+left-alike (c ∷ cs) st h t =
+    let rest = rest-accepted st c cs t in
+    rw (on-its-area st c h) (left-alike cs (call st c .station) (call-admissible st c h (rest .0)) (rest .1))
+
 pub decides-soundness : (area : List ℕ) → DecidesSoundness area
 unfolding Sound areaOf admissibleStation
-decides-soundness area = record { ofSound = ofSound; soundOf = soundOf; onlyOne = onlyOne }
+decides-soundness area =
+    record {
+      ofSound = ofSound;
+      soundOf = soundOf;
+      onlyOne = onlyOne;
+      overBytes = λ cs. taken-alike cs unopened tt;
+      leftBytes = λ cs. left-alike cs unopened tt;
+    }
   where
     onlyOne : (cs : List Call) → T (allAccepted unopened cs) → areaOf (stationAfter unopened cs) ≡ area
         → reading area ≡ holds (stationAfter unopened cs)

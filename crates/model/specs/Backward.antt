@@ -93,6 +93,7 @@ tailOfLast g (Run h w ∷ es) = tailOfLast g es
 tailOfLast g (Block q w ∷ es) = g - q
 tailOfLast g (Stop why days ∷ es) = tailOfLast g es
 
--- in phase 1, u is g - p of the last block after the last breaker, or of all blocks where there is no breaker; in phase 0 it is 0
+-- in phase 1, u is g - p of the last block after the last breaker, or of the last of all blocks where there is no breaker, and 0 where
+-- there is no such block; in phase 0 it is 0
 unfoldable pub tailBack : ℕ → ℕ → List Entry → ℕ
 tailBack i g es = cond (samplingBack i es) (tailOfLast g (sinceBreaker i es)) 0

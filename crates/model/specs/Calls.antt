@@ -85,6 +85,11 @@ entryRefusals p f count (Stop why days) =
     ∷ refuse 15 (not (within 1 2 why) || ltb 255 days || (eqb why 2 && ltb 0 days))
     ∷ []
 
+-- those of an ask
+unfoldable pub askRefusals : Plan → Figures → ℕ → List Refusal
+askRefusals p f N =
+    refuse 7 (isContinuous p) ∷ refuse 8 (isDiscontinued f) ∷ refuse 11 (not (sizeInRange p N)) ∷ []
+
 -- the refusals of every call on a station
 unfoldable pub refusals : Station → Call → List Refusal
 refusals unopened (Open q) = refuse 5 (not (validPlan q)) ∷ []
@@ -95,11 +100,7 @@ refusals unopened Read = refuse 6 true ∷ []
 refusals (opened p es) (Open q) = refuse 4 true ∷ refuse 5 (not (validPlan q)) ∷ []
 refusals (opened p es) (Enter e) = entryRefusals p (figuresOf p es) (length es) e
 refusals (opened p es) Back = refuse 16 (eqb (length es) 0) ∷ []
-refusals (opened p es) (Ask N) =
-    refuse 7 (isContinuous p)
-    ∷ refuse 8 (isDiscontinued (figuresOf p es))
-    ∷ refuse 11 (not (sizeInRange p N))
-    ∷ []
+refusals (opened p es) (Ask N) = askRefusals p (figuresOf p es) N
 refusals (opened p es) Read = []
 
 unfoldable pub refusalOf : Station → Call → ℕ

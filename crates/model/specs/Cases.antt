@@ -4,7 +4,7 @@
 use Prim.Native.Nat.{ℕ, zero, suc, _-_}
 use mathlib.Core.Path.{_≡_}
 use mathlib.Core.List.{List, [], _∷_, _++_}
-use lib.ListN.{length, replicate}
+use lib.ListN.{length, set, replicate}
 use Rattle.model.specs.declared.Plan.{Plan}
 use Rattle.model.specs.declared.Entry.{Entry}
 use Rattle.model.specs.declared.Entry.the-variants.{Lot, Run, Block, Stop}
@@ -12,11 +12,11 @@ use Rattle.model.specs.declared.Call.{Call}
 use Rattle.model.specs.declared.Call.the-variants.{Open, Enter, Back, Ask, Read}
 use Rattle.model.specs.declared.Answer.{Answer}
 use Rattle.model.specs.Sizes.{areaLength}
-use Rattle.model.specs.Stations.{opened}
-use Rattle.model.specs.Calls.{refusalOf, gives, refused}
+use Rattle.model.specs.Stations.{Station, unopened, opened}
+use Rattle.model.specs.Calls.{refusalOf, gives, refused, call}
 use Rattle.model.specs.Area.{zeros}
-use Rattle.model.specs.Store.{fresh, areaAt, storeAfter, answersTo}
-use Rattle.model.specs.Claims.{onAll}
+use Rattle.model.specs.Store.{fresh, areaAt, onStore, storeAfter, answersTo}
+use Rattle.model.specs.Claims.{on, onAll}
 
 infix 80 _⇒_
 -- a call, and what it gives
@@ -38,6 +38,14 @@ answersOf (s ∷ steps) = s .answer ∷ answersOf steps
 -- the calls, one after the other on a fresh store, give these answers
 abbrev pub Gives : List Step → Type 0
 Gives steps = answersTo fresh (onAll 0 (callsOf steps)) ≡ answersOf steps
+
+-- the same on an unopened station
+unfoldable pub stationAnswers : Station → List Call → List Answer
+stationAnswers st [] = []
+stationAnswers st (c ∷ cs) = call st c .answer ∷ stationAnswers (call st c .station) cs
+
+abbrev pub StationGives : List Step → Type 0
+StationGives steps = stationAnswers unopened (callsOf steps) ≡ answersOf steps
 
 abbrev pub start : ℕ → ℕ → ℕ → ℕ → Call
 start kind option a b = Open (record { kind = kind; option = option; a = a; b = b })
@@ -104,11 +112,17 @@ acceptedLots zero = []
 acceptedLots (suc i) = acceptedLots i ++ (lot i 5 5 0 0 ⇒ gives 1 5 1 ∷ [])
 
 -- reduced after ten accepted in a row, where option 1 permits it; the withheld lot that ends reduced leads to normal and stays in the
--- window, so that the next one leads to tightened
+-- window, so that the next withheld lot leads to tightened. A stop ends reduced above three days
 unfoldable pub reducedCase : List Step
 reducedCase =
     (start 2 1 2 0 ⇒ gives 0 0 0 ∷ acceptedLots 9)
     ++ (lot 10 5 5 0 0 ⇒ gives 1 5 0
+    ∷ Ask 800 ⇒ gives 8 0 0
+    ∷ stop 1 3 ⇒ gives 0 0 0
+    ∷ Ask 800 ⇒ gives 8 0 0
+    ∷ stop 1 4 ⇒ gives 0 0 0
+    ∷ Ask 800 ⇒ gives 20 0 0
+    ∷ Back ⇒ gives 4 0 0
     ∷ Ask 800 ⇒ gives 8 0 0
     ∷ lot 11 5 5 1 1 ⇒ gives 3 0 1
     ∷ lot 12 5 5 1 1 ⇒ gives 3 0 2
@@ -161,6 +175,106 @@ discontinuedCase =
     ∷ Back ⇒ gives 1 0 0
     ∷ lot 12 5 5 0 0 ⇒ gives 1 5 3
     ∷ []
+
+-- without option 1 the level stays
+unfoldable pub notPermitted : List Step
+notPermitted = start 2 0 2 0 ⇒ gives 0 0 0 ∷ acceptedLots 11
+
+-- the tenth lot on tightened, if it is the fifth accepted in a row, leads to normal
+unfoldable pub fiveBeatTen : List Step
+fiveBeatTen =
+    start 2 0 1 0 ⇒ gives 0 0 0
+    ∷ lot 0 5 5 1 1 ⇒ gives 3 0 1
+    ∷ lot 1 5 5 1 1 ⇒ gives 3 0 2
+    ∷ lot 2 5 5 1 1 ⇒ gives 3 0 2
+    ∷ lot 3 5 5 1 1 ⇒ gives 3 0 2
+    ∷ lot 4 5 5 1 1 ⇒ gives 3 0 2
+    ∷ lot 5 5 5 1 1 ⇒ gives 3 0 2
+    ∷ lot 6 5 5 1 1 ⇒ gives 3 0 2
+    ∷ lot 7 5 5 0 0 ⇒ gives 1 5 2
+    ∷ lot 8 5 5 0 0 ⇒ gives 1 5 2
+    ∷ lot 9 5 5 0 0 ⇒ gives 1 5 2
+    ∷ lot 10 5 5 0 0 ⇒ gives 1 5 2
+    ∷ lot 11 5 5 0 0 ⇒ gives 1 5 1
+    ∷ []
+
+-- each refusal of a credit stream at its edge
+unfoldable pub creditEdges : List Step
+creditEdges =
+    Read ⇒ refused 6
+    ∷ start 4 0 1 0 ⇒ refused 5
+    ∷ start 1 0 0 0 ⇒ refused 5
+    ∷ start 1 0 500001 0 ⇒ refused 5
+    ∷ start 1 0 15000 1 ⇒ refused 5
+    ∷ start 1 2 15000 0 ⇒ refused 5
+    ∷ start 1 0 15000 0 ⇒ gives 0 0 0
+    ∷ start 1 0 15000 0 ⇒ refused 4
+    ∷ Back ⇒ refused 16
+    ∷ Ask 0 ⇒ refused 11
+    ∷ Ask 1000001 ⇒ refused 11
+    ∷ lot 1 201 50 0 0 ⇒ refused 12
+    ∷ lot 1 201 51 52 52 ⇒ refused 13
+    ∷ lot 1 201 51 0 1 ⇒ refused 13
+    ∷ lot 1 201 51 1 0 ⇒ refused 13
+    ∷ lot 1 201 51 1 152 ⇒ refused 13
+    ∷ lot 1 201 51 1 151 ⇒ gives 2 50 0
+    ∷ lot 1 201 51 0 0 ⇒ refused 10
+    ∷ run 1 0 ⇒ refused 7
+    ∷ block 1 0 ⇒ refused 7
+    ∷ []
+
+-- with option 1 a wrong lot is heard whole, credit or not
+unfoldable pub agreedCase : List Step
+agreedCase =
+    start 1 1 15000 0 ⇒ gives 0 0 0
+    ∷ lot 1 201 51 0 0 ⇒ gives 1 201 201
+    ∷ lot 2 192 28 1 3 ⇒ gives 2 189 0
+    ∷ []
+
+-- each refusal of a continuous stream at its edge; a stop of more than three days breaks in sampling, and in screening c stays
+unfoldable pub continuousEdges : List Step
+continuousEdges =
+    start 3 1 10 4 ⇒ refused 5
+    ∷ start 3 0 10 1 ⇒ refused 5
+    ∷ start 3 0 10 201 ⇒ refused 5
+    ∷ start 3 0 10001 4 ⇒ refused 5
+    ∷ start 3 0 10 4 ⇒ gives 0 0 0
+    ∷ run 0 0 ⇒ refused 15
+    ∷ run 10001 0 ⇒ refused 15
+    ∷ run 1 2 ⇒ refused 15
+    ∷ run 10 1 ⇒ refused 14
+    ∷ block 1 0 ⇒ refused 14
+    ∷ run 4 0 ⇒ gives 4 0 0
+    ∷ stop 1 9 ⇒ gives 0 0 0
+    ∷ Read ⇒ gives 2 4 4
+    ∷ run 6 0 ⇒ gives 6 1 0
+    ∷ run 1 0 ⇒ refused 14
+    ∷ block 0 0 ⇒ refused 15
+    ∷ block 5 0 ⇒ refused 15
+    ∷ block 1 2 ⇒ refused 15
+    ∷ stop 1 3 ⇒ gives 0 0 0
+    ∷ Read ⇒ gives 4 10 65536
+    ∷ stop 1 4 ⇒ gives 0 0 0
+    ∷ Read ⇒ gives 5 10 0
+    ∷ stop 0 0 ⇒ refused 15
+    ∷ stop 3 0 ⇒ refused 15
+    ∷ stop 1 256 ⇒ refused 15
+    ∷ stop 2 1 ⇒ refused 15
+    ∷ lot 1 5 5 0 0 ⇒ refused 7
+    ∷ Ask 5 ⇒ refused 7
+    ∷ run 3 1 ⇒ gives 3 0 0
+    ∷ run 3 0 ⇒ gives 3 0 0
+    ∷ stop 2 0 ⇒ gives 0 0 0
+    ∷ Read ⇒ gives 8 16 0
+    ∷ []
+
+-- refusals 1, 2 and 3, each before any other
+abbrev pub StoreEdges : Type 0
+StoreEdges =
+    (onStore (zeros 41727) (on 16 Read) .answer ≡ refused 1)
+    × (onStore (zeros 41728) (on 16 Read) .answer ≡ refused 2)
+    × (onStore (set (zeros 41728) 10 1) (on 0 Read) .answer ≡ refused 3)
+    × (onStore (set (zeros 41728) 10 1) (on 1 Read) .answer ≡ refused 6)
 
 -- a credit stream with so many stops takes one more until 128 records stand
 abbrev pub stops : ℕ → List Entry
@@ -217,11 +331,17 @@ CasesHold =
     Gives frameCase
     × Gives creditCase
     × Gives levelCase
-    × Gives strictCase
+    × StationGives strictCase
     × Gives continuousCase
-    × Gives reducedCase
-    × Gives wrongLots
+    × StationGives reducedCase
+    × StationGives notPermitted
+    × StationGives fiveBeatTen
+    × StationGives discontinuedCase
+    × StationGives wrongLots
+    × StationGives agreedCase
     × Gives takenBack
-    × Gives discontinuedCase
+    × StationGives creditEdges
+    × StationGives continuousEdges
     × FullAt128
+    × StoreEdges
     × BytesHold

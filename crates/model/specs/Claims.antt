@@ -24,7 +24,7 @@ use Rattle.model.specs.Stations.{
   allWords,
 }
 use Rattle.model.specs.Calls.{refusalOf, refused, call}
-use Rattle.model.specs.Area.{zeros, areaOf, reading, holds}
+use Rattle.model.specs.Area.{zeros, areaOf, reading, holds, onArea}
 use Rattle.model.specs.Store.{Request, fresh, areaAt, onStore, storeAfter, answersTo}
 use Rattle.model.specs.Backward.{creditBack, windowBack, countBack, phaseBack, tailBack}
 
@@ -46,15 +46,29 @@ Sound area =
     (area ≡ zeros areaLength)
     ⊎ ((cs : List Call) × T (allAccepted unopened cs) × (areaOf (stationAfter unopened cs) ≡ area))
 
--- the reading decides soundness, and gives the one station that calls can have left there
+-- the same over an area's bytes: the area after a list of calls on it, and whether each was accepted
+unfoldable pub areaAfter : List ℕ → List Call → List ℕ
+areaAfter area [] = area
+areaAfter area (c ∷ cs) = areaAfter (onArea area c .area) cs
+
+unfoldable pub allTakenOn : List ℕ → List Call → Bool
+allTakenOn area [] = true
+allTakenOn area (c ∷ cs) =
+    eqb (onArea area c .answer .refusal) 0 && allWords (arguments c) && allTakenOn (onArea area c .area) cs
+
+-- the reading decides soundness, and gives the one station that calls can have left there; calls on the bytes of an all-zero area
+-- are accepted exactly where those on an unopened station are, and leave its bytes
 pub record DecidesSoundness (area : List ℕ) : Type 0 where
   pub ofSound : Sound area → (st : Station) × (reading area ≡ holds st)
   pub soundOf : (st : Station) → reading area ≡ holds st → Sound area
   pub onlyOne : (cs : List Call) → T (allAccepted unopened cs) → areaOf (stationAfter unopened cs) ≡ area
       → reading area ≡ holds (stationAfter unopened cs)
+  pub overBytes : (cs : List Call) → allTakenOn (zeros areaLength) cs ≡ allAccepted unopened cs
+  pub leftBytes : (cs : List Call) → T (allAccepted unopened cs)
+      → areaAfter (zeros areaLength) cs ≡ areaOf (stationAfter unopened cs)
 
--- Demand 1. A refusal gives three zeros and leaves the store; a call changes no byte outside its own area, and reads no other:
--- another store of the same length with the same area there gives the same answer and the same area after
+-- "The store": a call writes only inside its own stream's area and reads no other: another store of the same length with the same area
+-- there gives the same answer and the same area after. "Calls": a refusal gives three zeros and changes nothing
 pub record KeepsToItsArea (store : List ℕ) (r : Request) : Type 0 where
   pub refusal : (onStore store r .answer .refusal ≡ 0 → ⊥)
       → onStore store r ≡ record { answer = refused (onStore store r .answer .refusal); store = store }
@@ -149,13 +163,16 @@ unfoldable pub there : ℕ → List Request → List ℕ
 there stream calls = storeAfter fresh (remade stream (standingAfter stream calls))
 
 -- the whole area is equal in both stores; each call made on the other store is accepted; whatever calls on the stream follow, each
--- gives the same whole answer on both; and the figures stored are those worked out backwards from the standing entries
+-- gives the same whole answer on both; and the figures stored are those worked out backwards from the standing entries. The area is
+-- the one that the rules give for the standing entries, and the next call answers by the rules: a store never written is no way out
 pub record DemandThree (calls : List Request) (stream : ℕ) : Type 0 where
   pub sameArea : areaAt stream (here calls) ≡ areaAt stream (there stream calls)
   pub taken : AllTaken (answersTo fresh (remade stream (standingAfter stream calls)))
   pub answersAlike : (more : List Call)
       → answersTo (here calls) (onAll stream more) ≡ answersTo (there stream calls) (onAll stream more)
   pub backwards : StationBackward (standingAfter stream calls) (areaAt stream (here calls))
+  pub standsThere : areaAt stream (here calls) ≡ areaOf (standingAfter stream calls)
+  pub byTheRules : (c : Call) → onStore (here calls) (on stream c) .answer ≡ call (standingAfter stream calls) c .answer
 
 -- for every list of calls with 32-bit arguments, and every stream
 abbrev pub EveryList : Type 0

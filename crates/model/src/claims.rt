@@ -1,5 +1,5 @@
-// The claims of specs/Claims.antt and specs/Cases.antt, each the contract of a function, so that none can be weakened unseen. The
-// functions do nothing: what they promise is that the definitions are as claimed.
+// The claims of specs/Claims.antt and specs/Cases.antt, each the contract of a function: each is proved with the crate, and what it
+// says stands in specs/. The functions do nothing: what they promise is that the definitions are as claimed.
 ghost use Prim.Native.Nat.{ℕ};
 ghost use mathlib.Core.List.{List};
 ghost use lib.Dec.{T};

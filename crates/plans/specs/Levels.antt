@@ -1,4 +1,4 @@
--- Level lots, the moves between levels: paper 01, "Level lots", with its house numbers; document 000, 5.1.1.6.2 to 5.1.1.6.6 a).
+-- Level lots, the moves between levels: paper 01, "Level lots", with its house numbers; document 000, 5.1.1.6.2 to 5.1.1.6.5.
 -- Assumes nothing.
 use Prim.Native.Nat.{ℕ, _+_, _*_, _/_, _%_}
 use mathlib.Core.Bool.{Bool, cond, _&&_, _||_}
@@ -41,14 +41,18 @@ counted withheld s =
 unfoldable pub arrived : ℕ → LevelState → LevelState
 arrived level s = record { level = level; row = 0; judged = 0; window = s .window }
 
--- the level after a lot that was judged at each level and is counted in s
+-- the level after a lot, which s has counted, by the level at which it was judged
+
+-- 5.1.1.6.2 a); 5.1.1.6.4 a), with option 1 for b) to d)
 unfoldable pub afterNormal : Bool → LevelState → ℕ
 afterNormal permitsReduced s =
     cond (leb 2 (withheldIn (s .window))) tightened (cond (permitsReduced && leb 10 (s .row)) reduced normal)
 
+-- 5.1.1.6.3 b); ten lots judged there (house, in place of 5.1.1.6.6 a))
 unfoldable pub afterTightened : LevelState → ℕ
 afterTightened s = cond (leb 5 (s .row)) normal (cond (leb 10 (s .judged)) discontinued tightened)
 
+-- 5.1.1.6.5 a)
 unfoldable pub afterReduced : LevelState → ℕ
 afterReduced s = cond (eqb (s .window % 2) 1) normal reduced
 
@@ -67,6 +71,6 @@ moved level s = cond (eqb level (s .level)) s (arrived level s)
 unfoldable pub judgedLot : Bool → Bool → LevelState → LevelState
 judgedLot permitsReduced withheld s = moved (levelAfter permitsReduced (counted withheld s)) (counted withheld s)
 
--- on reduced, a stop of why 2 or of more than 3 days leads to normal; elsewhere a stop changes nothing
+-- on reduced, a stop of why 2 or of more than 3 days leads to normal (house); elsewhere a stop changes nothing
 unfoldable pub metStop : ℕ → ℕ → LevelState → LevelState
 metStop why days s = cond (eqb (s .level) reduced && (setUpChanged why || longStop days)) (arrived normal s) s

@@ -55,7 +55,8 @@ unfoldable pub lettersIn : List Row → ℕ → List ℕ
 lettersIn [] N = lastLetters
 lettersIn (r ∷ rows) N = cond (leb N (r .upTo)) (r .letters) (lettersIn rows N)
 
--- 5.1.1.2: the code letter of a lot size at the stated verification level, whatever the severity
+-- 5.1.1.2: the code letter of a lot size at the stated verification level. It is that level's at every severity: Table 1 is headed
+-- "normal inspection", and Table D.1, lot 4, is so
 unfoldable pub codeLetter : ℕ → ℕ → ℕ
 codeLetter vl N = getD (lettersIn table1 N) (7 - vl) 0
 

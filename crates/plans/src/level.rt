@@ -30,7 +30,7 @@ pub struct LevelState {
     pub level: u8,
     // accepted lots in an unbroken row judged at this level since arriving
     pub row: u8,
-    // lots judged on tightened since arriving
+    // lots judged on tightened since arriving, 0 at other levels
     pub judged: u8,
     // which of the last five lots were withheld, newest in bit 0
     pub window: u8,
