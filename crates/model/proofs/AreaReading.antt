@@ -127,7 +127,7 @@ entry-read p f count (Block q w) e t = ap (λ (n : ℕ). Block n w) (words-of q 
 entry-read p f count (Stop why days) e t = ap (λ (n : ℕ). Stop why n) (words-of days [] (words-of why (days ∷ []) t .1) .0)
 
 -- the newest of the records is read where it stands
-part-record : (e : Entry) (es : List Entry) (rest : List ℕ)
+pub part-record : (e : Entry) (es : List Entry) (rest : List ℕ)
     → part (recordLength * length es) recordLength (recordsOf es ++ (recordOf e ++ rest)) ≡ recordOf e
 unfolding part
 part-record e es rest =
@@ -146,7 +146,7 @@ entries-read p (e ∷ es) rest t =
 -- ---- the whole area
 
 -- behind the header stand the records, and zeros
-records-in : (p : Plan) (es : List Entry) → length es ≤ mostRecords
+pub records-in : (p : Plan) (es : List Entry) → length es ≤ mostRecords
     → part headerLength (recordLength * mostRecords) (areaOf (opened p es))
     ≡ recordsOf es ++ zeros (recordLength * (mostRecords - length es))
 unfolding part areaOf planBytes figureBytes bytes

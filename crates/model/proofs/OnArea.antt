@@ -49,7 +49,7 @@ pub on-station : (area : List ℕ) (st : Station) (c : Call) → reading area �
 unfolding onArea
 on-station area st c e = rw e
 
-on-unsound : (area : List ℕ) (c : Call) → reading area ≡ unsound → onArea area c ≡ record { answer = refused 3; area = area }
+pub on-unsound : (area : List ℕ) (c : Call) → reading area ≡ unsound → onArea area c ≡ record { answer = refused 3; area = area }
 unfolding onArea
 on-unsound area c e = rw e
 

@@ -123,12 +123,12 @@ module _ (store : List ℕ) (r : Request) (sized : length store ≡ storeLength)
   unfolding onStream
   answer-after = rw (on-stream store r sized known)
 
-wrong-length : (store : List ℕ) (r : Request) → (length store ≡ storeLength → ⊥)
+pub wrong-length : (store : List ℕ) (r : Request) → (length store ≡ storeLength → ⊥)
     → onStore store r ≡ record { answer = refused 1; store = store }
 unfolding onStore
 wrong-length store r e = rw (ne-eqb (length store) storeLength e)
 
-wrong-stream : (store : List ℕ) (r : Request) → length store ≡ storeLength → streams ≤ r .stream
+pub wrong-stream : (store : List ℕ) (r : Request) → length store ≡ storeLength → streams ≤ r .stream
     → onStore store r ≡ record { answer = refused 2; store = store }
 unfolding onStore
 wrong-stream store r l e = rw (eq-eqb (length store) storeLength l, le-leb streams (r .stream) e)

@@ -1,0 +1,157 @@
+-- The program fed in pieces prints what it prints for its lines. Assumes nothing.
+use mathlib.Core.Path.{_≡_, refl, sym, ap, _∙_}
+use mathlib.Core.Logic.{_⊎_, inl, inr}
+use mathlib.Core.Bool.{Bool, true, false, cond}
+use mathlib.Core.List.{List, [], _∷_, _++_, append-nil, append-assoc}
+use Prim.Native.Nat.{ℕ, _+_, _≤_, _<_}
+use native.Mathlib.Omega.{arith}
+use borrow.Author.Tests.{ne-eqb, leb-true, leb-false}
+use lib.Dec.{eqb, leb}
+use lib.ListN.{length, length-append}
+use Rattle.model.specs.Store.{fresh}
+use Rattle.frame_text.specs.declared.Frame.the-variants.{Bad}
+use Rattle.frame_text.specs.Frames.{frameLength, frameOf}
+use Rattle.frame_text.specs.Answers.{lineFeed}
+use Rattle.frame_text.specs.Program.{before, lines, onLine, LineOutcome, outputFrom, output}
+use Rattle.frame_text.specs.Feeding.{
+  Unfinished,
+  begun,
+  kept,
+  afterByte,
+  printedAt,
+  afterBytes,
+  printedBy,
+  printedAtEnd,
+  atEnd,
+}
+use Rattle.frame_text.specs.Claims.{FedInPieces}
+
+-- the bytes of an unfinished line before the lines that follow
+abbrev joined : List ℕ → List (List ℕ) → List (List ℕ)
+joined [] rest = rest
+joined (b ∷ line) rest = before b (joined line rest)
+
+joined-byte : (line : List ℕ) (b : ℕ) (rest : List (List ℕ)) → joined line (before b rest) ≡ joined (line ++ (b ∷ [])) rest
+joined-byte [] b rest = refl
+joined-byte (a ∷ line) b rest = ap (before a) (joined-byte line b rest)
+
+joined-end : (line : List ℕ) (rest : List (List ℕ)) → joined line ([] ∷ rest) ≡ line ∷ rest
+unfolding before
+joined-end [] rest = refl
+joined-end (a ∷ line) rest = ap (before a) (joined-end line rest)
+
+joined-last : (b : ℕ) (line : List ℕ) → joined (b ∷ line) [] ≡ (b ∷ line) ∷ []
+unfolding before
+joined-last b [] = refl
+joined-last b (a ∷ line) = ap (before b) (joined-last a line)
+
+at-end : (store line : List ℕ) → printedAtEnd store line ≡ outputFrom store (joined line [])
+unfolding printedAtEnd outputFrom
+at-end store [] = refl
+at-end store (b ∷ line) = rw (joined-last b line) (sym (append-nil _))
+
+-- ---- a line too long, of which not every byte is kept
+
+too-long-bad : (line : List ℕ) → frameLength < length line → frameOf line ≡ Bad
+unfolding frameOf
+too-long-bad line h = simp (ne-eqb (length line) frameLength (λ e. omega arith))
+
+too-long-alike : (store line other : List ℕ) → frameLength < length line → frameLength < length other → onLine store line ≡ onLine store other
+unfolding onLine
+too-long-alike store line other h k = rw (too-long-bad line h, too-long-bad other k)
+
+longer : (line : List ℕ) (b : ℕ) → frameLength < length line → frameLength < length (line ++ (b ∷ []))
+longer line b h = rw length-append (omega arith)
+
+-- what is kept of a line is the whole of it, or both are too long
+abbrev Alike : List ℕ → List ℕ → Type 0
+Alike line some = (line ≡ some) ⊎ ((frameLength < length line) × (frameLength < length some))
+
+line-alike : (store line some : List ℕ) → Alike line some → onLine store line ≡ onLine store some
+line-alike store line some (inl e) = ap (onLine store) e
+line-alike store line some (inr h) = too-long-alike store line some (h .0) (h .1)
+
+end-alike : (store line some : List ℕ) → Alike line some → printedAtEnd store line ≡ printedAtEnd store some
+unfolding printedAtEnd
+end-alike store line some (inl e) = ap (printedAtEnd store) e
+end-alike store [] some (inr h) = absurd (let never : ⊥ = omega arith in never)
+end-alike store (a ∷ line) [] (inr h) = absurd (let never : ⊥ = omega arith in never)
+end-alike store (a ∷ line) (b ∷ some) (inr h) =
+    ap (λ (o : LineOutcome). o .text) (too-long-alike store (a ∷ line) (b ∷ some) (h .0) (h .1))
+
+kept-alike : (line some : List ℕ) (b : ℕ) → Alike line some → Alike (line ++ (b ∷ [])) (kept some b)
+unfolding kept
+kept-alike line some b alike = go (leb (length some) frameLength) refl alike
+  where
+    go : (t : Bool) → leb (length some) frameLength ≡ t → Alike line some
+        → Alike (line ++ (b ∷ [])) (cond t (some ++ (b ∷ [])) some)
+    go true e (inl same) = inl (ap (λ (l : List ℕ). l ++ (b ∷ [])) same)
+    go true e (inr h) = absurd (let never : ⊥ = omega (arith, leb-true (length some) frameLength e) in never)
+    go false e (inl same) =
+        let long : frameLength < length some = leb-false (length some) frameLength e in
+        inr (longer line b (rw same long), long)
+    go false e (inr h) = inr (longer line b (h .0), h .1)
+
+-- ---- the whole
+
+feeding : (bytes store line some : List ℕ) → Alike line some
+    → printedBy (record { store = store; line = some }) bytes ++ atEnd (afterBytes (record { store = store; line = some }) bytes)
+    ≡ outputFrom store (joined line (lines bytes))
+unfolding printedBy afterBytes afterByte printedAt atEnd lines outputFrom
+feeding [] store line some alike = sym (end-alike store line some alike) ∙ at-end store line
+feeding (b ∷ bytes) store line some alike =
+    next (eqb b lineFeed) (feeding bytes (onLine store some .store) [] [] (inl refl))
+    (feeding bytes store (line ++ (b ∷ [])) (kept some b) (kept-alike line some b alike))
+  where
+    ended : Unfinished
+    ended = record { store = onLine store some .store; line = [] }
+
+    going : Unfinished
+    going = record { store = store; line = kept some b }
+
+    next : (t : Bool) → printedBy ended bytes ++ atEnd (afterBytes ended bytes) ≡ outputFrom (onLine store some .store) (lines bytes)
+        → printedBy going bytes ++ atEnd (afterBytes going bytes) ≡ outputFrom store (joined (line ++ (b ∷ [])) (lines bytes))
+        → cond t (onLine store some .text) [] ++ printedBy (cond t ended going) bytes ++ atEnd (afterBytes (cond t ended going) bytes)
+        ≡ outputFrom store (joined line (cond t ([] ∷ lines bytes) (before b (lines bytes))))
+    next true whenEnded whenGoing =
+        rw (append-assoc (onLine store some .text), whenEnded, joined-end line (lines bytes), line-alike store line some alike)
+    next false whenEnded whenGoing = rw (joined-byte line b (lines bytes)) whenGoing
+
+-- ---- pieces
+
+cut-state : (u : Unfinished) (xs ys : List ℕ) → afterBytes u (xs ++ ys) ≡ afterBytes (afterBytes u xs) ys
+unfolding afterBytes
+cut-state u [] ys = refl
+cut-state u (b ∷ xs) ys = cut-state (afterByte u b) xs ys
+
+cut-text : (u : Unfinished) (xs ys : List ℕ) → printedBy u (xs ++ ys) ≡ printedBy u xs ++ printedBy (afterBytes u xs) ys
+unfolding afterBytes printedBy
+cut-text u [] ys = refl
+cut-text u (b ∷ xs) ys = rw (cut-text (afterByte u b) xs ys) (sym (append-assoc (printedAt u b) _ _))
+
+short-kept : (line : List ℕ) (b : ℕ) → length line ≤ frameLength + 1 → length (kept line b) ≤ frameLength + 1
+unfolding kept
+short-kept line b h = go (leb (length line) frameLength) refl
+  where
+    go : (t : Bool) → leb (length line) frameLength ≡ t → length (cond t (line ++ (b ∷ [])) line) ≤ frameLength + 1
+    go true e = rw length-append (omega (arith, leb-true (length line) frameLength e))
+    go false e = h
+
+short-line : (u : Unfinished) (bytes : List ℕ) → length (u .line) ≤ frameLength + 1 → length (afterBytes u bytes .line) ≤ frameLength + 1
+unfolding afterBytes afterByte
+short-line u [] h = h
+short-line u (b ∷ bytes) h = short-line (afterByte u b) bytes (go (eqb b lineFeed))
+  where
+    go : (t : Bool) → length (cond {A = Unfinished} t (record { store = onLine (u .store) (u .line) .store; line = [] }) (record { store = u .store; line = kept (u .line) b }) .line) ≤ frameLength + 1
+    go true = omega arith
+    go false = short-kept (u .line) b h
+
+pub fed-in-pieces : FedInPieces
+unfolding begun output
+fed-in-pieces =
+    record {
+      whole = λ input. feeding input fresh [] [] (inl refl);
+      cutState = cut-state;
+      cutText = cut-text;
+      shortLine = short-line;
+    }

@@ -1,0 +1,159 @@
+-- The laws of digits and of an answer's line. Assumes nothing.
+use mathlib.Core.Path.{_≡_, refl, _∙_}
+use mathlib.Core.Logic.{_⊎_, inl, inr, ⊎-elim}
+use mathlib.Core.Bool.{Bool, true, false, cond, _&&_, _||_}
+use mathlib.Core.List.{List, [], _∷_, _++_}
+use Prim.Native.Nat.{ℕ, zero, suc, _+_, _*_, _/_, _%_, _^_, _≤_, _<_}
+use native.Mathlib.Nat.{add-zero, zero-add, add-suc, suc-add, pow-suc}
+use native.Mathlib.Omega.{arith}
+use borrow.Author.Tests.{ltb-true, ltb-false, leb-true, le-leb, lt-leb}
+use lib.Dec.{T, leb, ltb, lit<}
+use lib.ListN.{length, take, drop, getD, set, length-append, length-take, length-drop}
+use lib.Seq.{getD-take, getD-drop}
+use Rattle.little.specs.Little.{part, written}
+use Rattle.little.proofs.Laws.{set-written, written-next, length-written}
+use Rattle.model.specs.declared.Answer.{Answer}
+use Rattle.model.specs.Stations.{within}
+use Rattle.model.proofs.Booleans.{both-of, both}
+use Rattle.frame_text.specs.Digits.{digit, allDigits, digitValue, digitOf, goneOn, hexValue, digitsOf}
+use Rattle.frame_text.specs.Answers.{answerText, badText}
+use Rattle.frame_text.specs.Claims.{ReadAsWritten}
+
+-- ---- digits
+
+-- a byte is a digit by the range that it stands in
+pub decimal-digit : (b : ℕ) → 48 ≤ b → b ≤ 57 → digit b ≡ true
+unfolding digit within
+decimal-digit b low high = simp (le-leb 48 b low, le-leb b 57 high)
+
+pub letter-digit : (b : ℕ) → 97 ≤ b → b ≤ 102 → digit b ≡ true
+unfolding digit within
+letter-digit b low high = simp (le-leb 48 b (omega arith), lt-leb b 57 (omega arith), le-leb 97 b low, le-leb b 102 high)
+
+pub no-digit-below : (b : ℕ) → b < 48 → digit b ≡ false
+unfolding digit within
+no-digit-below b h = simp (lt-leb 48 b h, lt-leb 97 b (omega arith))
+
+pub no-digit-between : (b : ℕ) → 57 < b → b < 97 → digit b ≡ false
+unfolding digit within
+no-digit-between b low high = simp (le-leb 48 b (omega arith), lt-leb b 57 low, lt-leb 97 b high)
+
+pub no-digit-above : (b : ℕ) → 102 < b → digit b ≡ false
+unfolding digit within
+no-digit-above b h = simp (le-leb 48 b (omega arith), lt-leb b 57 (omega arith), le-leb 97 b (omega arith), lt-leb b 102 h)
+
+digit-range : (b : ℕ) → T (digit b) → ((48 ≤ b) × (b ≤ 57)) ⊎ ((97 ≤ b) × (b ≤ 102))
+unfolding digit within
+digit-range b h = go (leb 48 b) refl (leb b 57) refl (leb 97 b) refl (leb b 102) refl h
+  where
+    go : (t : Bool) → leb 48 b ≡ t → (u : Bool) → leb b 57 ≡ u → (v : Bool) → leb 97 b ≡ v → (w : Bool) → leb b 102 ≡ w
+        → T (t && u || v && w) → ((48 ≤ b) × (b ≤ 57)) ⊎ ((97 ≤ b) × (b ≤ 102))
+    go true p true q v r w s h = inl (leb-true 48 b p, leb-true b 57 q)
+    go true p false q true r true s h = inr (leb-true 97 b r, leb-true b 102 s)
+    go true p false q true r false s h = absurd h
+    go true p false q false r w s h = absurd h
+    go false p u q true r true s h = inr (leb-true 97 b r, leb-true b 102 s)
+    go false p u q true r false s h = absurd h
+    go false p u q false r w s h = absurd h
+
+pub decimal-from : (b : ℕ) → T (digit b) → b ≤ 57 → 48 ≤ b
+decimal-from b h small = ⊎-elim (λ w. w .0) (λ w. omega arith) (digit-range b h)
+
+pub letter-within : (b : ℕ) → T (digit b) → 57 < b → (97 ≤ b) × (b ≤ 102)
+letter-within b h large = ⊎-elim (λ w. (omega arith, omega arith)) (λ w. w) (digit-range b h)
+
+digit-below : (b : ℕ) → T (digit b) → digitValue b < 16
+unfolding digitValue
+digit-below b h = ⊎-elim (λ w. simp (le-leb b 57 (w .1)) (omega arith)) (λ w. simp (lt-leb b 57 (omega arith)) (omega arith)) (digit-range b h)
+
+pub digits-take : (k : ℕ) (s : List ℕ) → T (allDigits s) → T (allDigits (take k s))
+unfolding allDigits
+digits-take zero s h = tt
+digits-take (suc k) [] h = tt
+digits-take (suc k) (b ∷ s) h = let parts : T (digit b) × T (allDigits s) = both-of (digit b) (allDigits s) h in both (digit b) _ (parts .0) (digits-take k s (parts .1))
+
+pub digits-drop : (k : ℕ) (s : List ℕ) → T (allDigits s) → T (allDigits (drop k s))
+unfolding allDigits
+digits-drop zero s h = h
+digits-drop (suc k) [] h = tt
+digits-drop (suc k) (b ∷ s) h = digits-drop k s (both-of (digit b) (allDigits s) h .1)
+
+pub digits-part : (at k : ℕ) (s : List ℕ) → T (allDigits s) → T (allDigits (part at k s))
+unfolding part
+digits-part at k s h = digits-take k (drop at s) (digits-drop at s h)
+
+digit-at : (i : ℕ) (s : List ℕ) → T (allDigits s) → i < length s → T (digit (getD s i 0))
+unfolding allDigits
+digit-at i [] h inside = absurd (let never : ⊥ = omega arith in never)
+digit-at zero (b ∷ s) h inside = both-of (digit b) (allDigits s) h .0
+digit-at (suc i) (b ∷ s) h inside = digit-at i s (both-of (digit b) (allDigits s) h .1) (omega arith)
+
+-- every byte of a part that is all digits is one
+pub digit-in-part : (at width i : ℕ) (s : List ℕ) → T (allDigits (part at width s)) → i < width → at + width ≤ length s → T (digit (getD s (at + i) 0))
+unfolding part
+digit-in-part at width i s h inside fits =
+    let found : T (digit (getD (take width (drop at s)) i 0)) =
+    digit-at i (take width (drop at s)) h (simp (length-take, length-drop) (omega arith)) in
+    rw (getD-take width (drop at s) i 0 inside, getD-drop at s i 0) at found
+
+-- ---- a number and its digits
+
+-- digits that go on from a number with room for j more
+gone-on-below : (j : ℕ) (n : ℕ) (s : List ℕ) → T (allDigits s) → n < 16 ^ j → goneOn n s < 16 ^ (j + length s)
+unfolding allDigits goneOn
+gone-on-below j n [] h small = rw add-zero small
+gone-on-below j n (b ∷ s) h small =
+    let parts : T (digit b) × T (allDigits s) = both-of (digit b) (allDigits s) h in
+    rw (add-suc, ← suc-add)
+    (gone-on-below (suc j) (n * 16 + digitValue b) s (parts .1) (omega (arith, pow-suc 16 j, digit-below b (parts .0))))
+
+pub value-below : (s : List ℕ) → T (allDigits s) → hexValue s < 16 ^ length s
+unfolding hexValue
+value-below s h = rw zero-add at (gone-on-below 0 0 s h (lit< tt))
+
+gone-on-last : (n : ℕ) (s : List ℕ) (b : ℕ) → goneOn n (s ++ (b ∷ [])) ≡ goneOn n s * 16 + digitValue b
+unfolding goneOn
+gone-on-last n [] b = refl
+gone-on-last n (a ∷ s) b = gone-on-last (n * 16 + digitValue a) s b
+
+value-of-digit : (n : ℕ) → n < 16 → digitValue (digitOf n) ≡ n
+unfolding digitValue digitOf
+value-of-digit n h = go (ltb n 10) refl
+  where
+    go : (t : Bool) → ltb n 10 ≡ t → digitValue (cond t (48 + n) (87 + n)) ≡ n
+    go true e = simp (le-leb (48 + n) 57 (omega (arith, ltb-true n 10 e))) (omega arith)
+    go false e = simp (lt-leb (87 + n) 57 (omega (arith, ltb-false n 10 e))) (omega arith)
+
+pub read-as-written : ReadAsWritten
+unfolding hexValue digitsOf goneOn
+read-as-written zero n h = omega arith
+read-as-written (suc k) n h =
+    rw (gone-on-last 0 (digitsOf k (n / 16)) (digitOf (n % 16)), value-of-digit (n % 16) (omega arith), read-as-written k (n / 16) (omega (arith, pow-suc 16 k)))
+    (omega arith)
+
+pub length-digits : (k n : ℕ) → length (digitsOf k n) ≡ k
+unfolding digitsOf
+length-digits zero n = refl
+length-digits (suc k) n = rw (length-append, length-digits k (n / 16)) (omega arith)
+
+-- ---- an answer's line
+
+pub length-answer : (r : Answer) → length (answerText r) ≡ 27
+unfolding answerText
+length-answer r = simp (length-append, length-digits)
+
+pub length-bad : length badText ≡ 3
+unfolding badText
+length-bad = refl
+
+-- ---- writing
+
+-- a write right behind another
+pub write-on : (at k : ℕ) (a b s : List ℕ) → length a ≡ k → at + k + length b ≤ length s → written (at + k) b (written at a s) ≡ written at (a ++ b) s
+write-on at k a b s e fits = rw (← e) (written-next at a b s (omega arith))
+
+-- a store right behind a write
+pub store-on : (at k : ℕ) (a s : List ℕ) (b : ℕ) → length a ≡ k → at + k < length s → set (written at a s) (at + k) b ≡ written at (a ++ (b ∷ [])) s
+store-on at k a s b e inside =
+    set-written (at + k) b (written at a s) (rw (length-written at a s (omega arith)) inside)
+    ∙ write-on at k a (b ∷ []) s e (omega arith)

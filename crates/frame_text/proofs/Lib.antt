@@ -1,0 +1,6 @@
+-- Laws about the definitions of specs/, and the proofs of its claims.
+pub mod Laws
+pub mod Small
+pub mod Requests
+pub mod Feeding
+pub mod WholeCase

@@ -1,0 +1,125 @@
+use Rattle.frame_text.specs.Frames.{allZero, madeIf, numbered}
+use borrow.Author.Tests.{ne-eqb}
+use borrow.Author.Needs.{needs}
+use Rattle.frame_text.proofs.by_number.Statement.{statement}
+use Rattle.frame_text.proofs.by_number.Tie as tie
+
+all-zero-requires : tie.Need-all-zero-requires
+all-zero-requires c κs = search needs
+
+open-call-requires : tie.Need-open-call-requires
+open-call-requires c κs = search needs
+
+made-if-requires : tie.Need-made-if-requires
+made-if-requires c κs = search needs
+
+lot-call-requires : tie.Need-lot-call-requires
+lot-call-requires c κs = search needs
+
+made-if-requires-2 : tie.Need-made-if-requires-2
+made-if-requires-2 c κs = search needs
+
+all-zero-requires-2 : tie.Need-all-zero-requires-2
+all-zero-requires-2 c κs = search needs
+
+made-if-requires-3 : tie.Need-made-if-requires-3
+made-if-requires-3 c κs = search needs
+
+all-zero-requires-3 : tie.Need-all-zero-requires-3
+all-zero-requires-3 c κs = search needs
+
+made-if-requires-4 : tie.Need-made-if-requires-4
+made-if-requires-4 c κs = search needs
+
+all-zero-requires-4 : tie.Need-all-zero-requires-4
+all-zero-requires-4 c κs = search needs
+
+made-if-requires-5 : tie.Need-made-if-requires-5
+made-if-requires-5 c κs = search needs
+
+all-zero-requires-5 : tie.Need-all-zero-requires-5
+all-zero-requires-5 c κs = search needs
+
+made-if-requires-6 : tie.Need-made-if-requires-6
+made-if-requires-6 c κs = search needs
+
+all-zero-requires-6 : tie.Need-all-zero-requires-6
+all-zero-requires-6 c κs = search needs
+
+made-if-requires-7 : tie.Need-made-if-requires-7
+made-if-requires-7 c κs = search needs
+
+all-zero-requires-7 : tie.Need-all-zero-requires-7
+all-zero-requires-7 c κs = search needs
+
+made-if-requires-8 : tie.Need-made-if-requires-8
+made-if-requires-8 c κs = search needs
+
+returns : tie.Need-returns
+unfolding numbered allZero
+returns c = rw (c .before .before .before .match .keys1) (cc)
+
+returns-2 : tie.Need-returns-2
+unfolding numbered madeIf
+returns-2 c = rw (c .before .before .match .keys2) (cc)
+
+returns-3 : tie.Need-returns-3
+unfolding numbered allZero
+returns-3 c = rw (c .before .before .match .keys3) (cc)
+
+returns-4 : tie.Need-returns-4
+unfolding numbered allZero
+returns-4 c = rw (c .before .before .match .keys4) (cc)
+
+returns-5 : tie.Need-returns-5
+unfolding numbered allZero
+returns-5 c = rw (c .before .before .match .keys5) (cc)
+
+returns-6 : tie.Need-returns-6
+unfolding numbered allZero
+returns-6 c = rw (c .before .before .match .keys6) (cc)
+
+returns-7 : tie.Need-returns-7
+unfolding numbered allZero
+returns-7 c = rw (c .before .before .match .keys7) (cc)
+
+returns-8 : tie.Need-returns-8
+unfolding numbered allZero
+returns-8 c = rw (c .before .before .match .keys8) (cc)
+
+returns-9 : tie.Need-returns-9
+unfolding numbered
+returns-9 c =
+    simp
+    (ne-eqb _ 1 (c .match .rest .0 .0 .0 .0 .0 .0 .0 .1), ne-eqb _ 2 (c .match .rest .0 .0 .0 .0 .0 .0 .1), ne-eqb _ 3 (c .match .rest .0 .0 .0 .0 .0 .1), ne-eqb _ 4 (c .match .rest .0 .0 .0 .0 .1), ne-eqb _ 5 (c .match .rest .0 .0 .0 .1), ne-eqb _ 6 (c .match .rest .0 .0 .1), ne-eqb _ 7 (c .match .rest .0 .1), ne-eqb _ 8 (c .match .rest .1))
+
+pub by-number-spec : {M : Type 1} → statement M
+by-number-spec =
+    tie.close
+    (tie.spec
+    all-zero-requires
+    open-call-requires
+    made-if-requires
+    lot-call-requires
+    made-if-requires-2
+    all-zero-requires-2
+    made-if-requires-3
+    all-zero-requires-3
+    made-if-requires-4
+    all-zero-requires-4
+    made-if-requires-5
+    all-zero-requires-5
+    made-if-requires-6
+    all-zero-requires-6
+    made-if-requires-7
+    all-zero-requires-7
+    made-if-requires-8
+    returns
+    returns-2
+    returns-3
+    returns-4
+    returns-5
+    returns-6
+    returns-7
+    returns-8
+    returns-9)

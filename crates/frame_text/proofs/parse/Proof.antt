@@ -1,0 +1,81 @@
+use Rattle.frame_text.proofs.Laws.{digits-part}
+use Rattle.frame_text.specs.Digits.{allDigits}
+use Rattle.frame_text.specs.Frames.{callNumber, streamIn, argument, frameOf}
+use Rattle.little.specs.Little.{part}
+use Rattle.model.proofs.Booleans.{of-holds}
+use mathlib.Core.Path.{_≡_, sym, _∙_}
+use mathlib.Core.Bool.{true}
+use Prim.Native.Nat.{ℕ, _+_, _≤_}
+use native.Mathlib.Omega.{arith}
+use borrow.Author.Tests.{eq-eqb, ne-eqb, not-true, not-false}
+use lib.Dec.{T, lit≤}
+use lib.ListN.{length}
+use borrow.Author.Needs.{needs}
+use Rattle.frame_text.proofs.parse.Statement.{statement}
+use Rattle.frame_text.proofs.parse.Tie as tie
+
+returns : tie.Need-returns
+unfolding frameOf
+returns c = simp (ne-eqb _ _ (c .if1 .taken))
+
+all-digits-requires : tie.Need-all-digits-requires
+all-digits-requires c κs = search needs
+
+returns-2 : tie.Need-returns-2
+unfolding frameOf
+returns-2 c = simp (eq-eqb _ _ (c .before .before .if1 .left), sym (c .before .all-digits .ensures) ∙ not-true _ (c .if2 .taken))
+
+all-digits : (c : tie.Else2) → allDigits (c .before .before .before .before .args .line .now) ≡ true
+all-digits c = sym (c .before .all-digits .ensures) ∙ not-false _ (c .if2 .left)
+
+-- every part of 44 digits can be read
+ready : (c : tie.Else2) (at k : ℕ) → at + k ≤ 44 → k ≤ 8
+    → (at + k ≤ length (c .before .before .before .before .args .line .now)) × (k ≤ 8) × T (allDigits (part at k (c .before .before .before .before .args .line .now)))
+ready c at k fits short = (omega arith, short, digits-part at k _ (of-holds _ (all-digits c)))
+
+value-at-requires : tie.Need-value-at-requires
+value-at-requires c κs = ready c 0 2 (lit≤ tt) (lit≤ tt)
+
+value-at-requires-2 : tie.Need-value-at-requires-2
+value-at-requires-2 c κs = ready (c .before) 2 2 (lit≤ tt) (lit≤ tt)
+
+value-at-requires-3 : tie.Need-value-at-requires-3
+value-at-requires-3 c κs = ready (c .before .before) 4 8 (lit≤ tt) (lit≤ tt)
+
+value-at-requires-4 : tie.Need-value-at-requires-4
+value-at-requires-4 c κs = ready (c .before .before .before) 12 8 (lit≤ tt) (lit≤ tt)
+
+value-at-requires-5 : tie.Need-value-at-requires-5
+value-at-requires-5 c κs = ready (c .before .before .before .before) 20 8 (lit≤ tt) (lit≤ tt)
+
+value-at-requires-6 : tie.Need-value-at-requires-6
+value-at-requires-6 c κs = ready (c .before .before .before .before .before) 28 8 (lit≤ tt) (lit≤ tt)
+
+value-at-requires-7 : tie.Need-value-at-requires-7
+value-at-requires-7 c κs = ready (c .before .before .before .before .before .before) 36 8 (lit≤ tt) (lit≤ tt)
+
+by-number-requires : tie.Need-by-number-requires
+by-number-requires c κs = search needs
+
+returns-3 : tie.Need-returns-3
+unfolding frameOf callNumber streamIn argument
+returns-3 c =
+    let tested = c .before .before .before .before .before .before .before .before in
+    simp (eq-eqb _ _ (tested .before .before .if1 .left), all-digits tested) (cc)
+
+pub parse-spec : {M : Type 1} → statement M
+parse-spec =
+    tie.close
+    (tie.spec
+    returns
+    all-digits-requires
+    returns-2
+    value-at-requires
+    value-at-requires-2
+    value-at-requires-3
+    value-at-requires-4
+    value-at-requires-5
+    value-at-requires-6
+    value-at-requires-7
+    by-number-requires
+    returns-3)

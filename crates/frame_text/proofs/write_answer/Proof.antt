@@ -1,0 +1,101 @@
+use Rattle.frame_text.proofs.Laws.{length-digits, length-answer, write-on, store-on}
+use Rattle.frame_text.specs.Digits.{digitsOf}
+use Rattle.frame_text.specs.Answers.{lineFeed, answerText}
+use Rattle.little.specs.Little.{written}
+use Rattle.little.proofs.Laws.{length-written}
+use Rattle.model.specs.declared.Answer.{Answer}
+use mathlib.Core.Path.{_≡_, ap, _∙_}
+use mathlib.Core.List.{List, _++_}
+use Prim.Native.Nat.{ℕ, _+_, _≤_}
+use lib.ListN.{length, set, length-append}
+use native.Mathlib.Omega.{arith}
+use borrow.Author.Needs.{needs}
+use Rattle.frame_text.proofs.write_answer.Statement.{statement}
+use Rattle.frame_text.proofs.write_answer.Tie as tie
+
+-- four numbers and a line feed, one behind the other
+one-line : (at : ℕ) (r : Answer) (s : List ℕ) → at + 27 ≤ length s
+    → set
+    (written (at + 18) (digitsOf 8 (r .third))
+    (written (at + 10) (digitsOf 8 (r .second))
+    (written (at + 2) (digitsOf 8 (r .first)) (written at (digitsOf 2 (r .refusal)) s))))
+    (at + 26)
+    lineFeed
+    ≡ written at (answerText r) s
+unfolding answerText
+one-line at r s fits =
+    let none : List ℕ = digitsOf 2 (r .refusal) in
+    let one : List ℕ = none ++ digitsOf 8 (r .first) in
+    let two : List ℕ = one ++ digitsOf 8 (r .second) in
+    let three : List ℕ = two ++ digitsOf 8 (r .third) in
+    let none-length : length none ≡ 2 = length-digits 2 (r .refusal) in
+    let one-length : length one ≡ 10 = simp (length-append, length-digits) in
+    let two-length : length two ≡ 18 = simp (length-append, length-digits) in
+    let three-length : length three ≡ 26 = simp (length-append, length-digits) in
+    rw (
+      write-on at 2 none (digitsOf 8 (r .first)) s none-length (omega (arith, length-digits 8 (r .first))),
+      write-on at 10 one (digitsOf 8 (r .second)) s one-length (omega (arith, length-digits 8 (r .second))),
+      write-on at 18 two (digitsOf 8 (r .third)) s two-length (omega (arith, length-digits 8 (r .third))),
+    )
+    (store-on at 26 three s lineFeed three-length (omega arith))
+
+put-digits-requires : tie.Need-put-digits-requires
+put-digits-requires c κs = search needs
+
+add-put-digits : tie.Need-add-put-digits
+add-put-digits c = search needs
+
+put-digits-requires-2 : tie.Need-put-digits-requires-2
+put-digits-requires-2 c κs = search needs
+
+add-put-digits-2 : tie.Need-add-put-digits-2
+add-put-digits-2 c = search needs
+
+put-digits-requires-3 : tie.Need-put-digits-requires-3
+put-digits-requires-3 c κs = search needs
+
+add-put-digits-3 : tie.Need-add-put-digits-3
+add-put-digits-3 c = search needs
+
+put-digits-requires-4 : tie.Need-put-digits-requires-4
+put-digits-requires-4 c κs = search needs
+
+add-out : tie.Need-add-out
+add-out c = search needs
+
+slice-write-out : tie.Need-slice-write-out
+slice-write-out c = search needs
+
+returns : tie.Need-returns
+returns c =
+    let fourth = c .before .before in
+    let third = fourth .before .before .before .before in
+    let second = third .before .before .before .before in
+    let first = second .before .before .before .before in
+    let args = first .before .before .before .args in
+    rw (fourth .put-digits4 .ensures, third .put-digits3 .ensures, second .put-digits2 .ensures, first .put-digits .ensures)
+    (one-line (args .at) (args .answer) (args .out .now) (omega (arith, first .before .before .before .pre)))
+
+same-length : tie.Need-same-length
+same-length c =
+    let start = c .before .before .before .before .before .before .before .before .before .before .before .before .before .before .before .before .before in
+    let args = start .args in
+    ap length (returns c)
+    ∙ length-written (args .at) (answerText (args .answer)) (args .out .now)
+    (omega (arith, start .pre, length-answer (args .answer)))
+
+pub write-answer-spec : {M : Type 1} → statement M
+write-answer-spec =
+    tie.close
+    (tie.spec
+    put-digits-requires
+    add-put-digits
+    put-digits-requires-2
+    add-put-digits-2
+    put-digits-requires-3
+    add-put-digits-3
+    put-digits-requires-4
+    add-out
+    slice-write-out
+    same-length
+    returns)

@@ -1,0 +1,85 @@
+-- What is known of an area once it has been read. Assumes nothing.
+use Prim.Native.Nat.{ℕ, _≤_}
+use mathlib.Core.Path.{_≡_, refl, sym, ap, _∙_}
+use mathlib.Core.Bool.{true, false}
+use mathlib.Core.List.{List}
+use native.Mathlib.Omega.{arith}
+use lib.Dec.{T}
+use lib.ListN.{length}
+use Rattle.model.specs.declared.Entry.{Entry}
+use Rattle.model.specs.Stations.{unopened, opened, validPlan}
+use Rattle.model.specs.Figuring.{figuresOf}
+use Rattle.model.specs.Calls.{admissible}
+use Rattle.model.specs.Area.{areaOf, Reading, unsound, holds, reading}
+use Rattle.model.proofs.Booleans.{never-both}
+use Rattle.model.proofs.Allowed.{count-within}
+use Rattle.model.proofs.AreaReading.{area-of-reading}
+use Rattle.model.proofs.FigureBounds.{FiguresWithin, figures-within}
+use Rattle.model.proofs.Keeping.{plan-of, entries-of}
+use Rattle.replay.specs.declared.Standing.{Standing}
+use Rattle.replay.specs.Replaying.{nothingStands, standingOf}
+
+-- an area in which a stream is opened, as the reading tells it
+pub record OpenedAt (area : List ℕ) (s : Standing) (es : List Entry) : Type 0 where
+  pub reads : reading area ≡ holds (opened (s .plan) es)
+  pub counted : s .count ≡ length es
+  pub brought : s .figures ≡ figuresOf (s .plan) es
+
+module _ (area : List ℕ) (s : Standing) (said : s ≡ standingOf (reading area)) where
+  sound-of : (r : Reading) → reading area ≡ r → s .sound ≡ standingOf r .sound
+  sound-of r e = ap (λ (x : Standing). x .sound) (said ∙ ap standingOf e)
+
+  opened-of : (r : Reading) → reading area ≡ r → s .opened ≡ standingOf r .opened
+  opened-of r e = ap (λ (x : Standing). x .opened) (said ∙ ap standingOf e)
+
+  pub read-unsound : s .sound ≡ false → reading area ≡ unsound
+  unfolding standingOf nothingStands
+  read-unsound fails = go (reading area) refl
+    where
+      go : (r : Reading) → reading area ≡ r → reading area ≡ unsound
+      go unsound e = e
+      go (holds unopened) e = absurd (never-both (s .sound) (sound-of (holds unopened) e) fails)
+      go (holds (opened p es)) e = absurd (never-both (s .sound) (sound-of (holds (opened p es)) e) fails)
+
+  pub read-unopened : s .sound ≡ true → s .opened ≡ false → reading area ≡ holds unopened
+  unfolding standingOf nothingStands
+  read-unopened sound shut = go (reading area) refl
+    where
+      go : (r : Reading) → reading area ≡ r → reading area ≡ holds unopened
+      go unsound e = absurd (never-both (s .sound) sound (sound-of unsound e))
+      go (holds unopened) e = e
+      go (holds (opened p es)) e = absurd (never-both (s .opened) (opened-of (holds (opened p es)) e) shut)
+
+  pub read-opened : s .opened ≡ true → (es : List Entry) × OpenedAt area s es
+  unfolding standingOf nothingStands
+  read-opened is = go (reading area) refl
+    where
+      go : (r : Reading) → reading area ≡ r → (es : List Entry) × OpenedAt area s es
+      go unsound e = absurd (never-both (s .opened) is (opened-of unsound e))
+      go (holds unopened) e = absurd (never-both (s .opened) is (opened-of (holds unopened) e))
+      go (holds (opened p es)) e =
+          let told : s ≡ standingOf (holds (opened p es)) = said ∙ ap standingOf e in (
+            es,
+            record {
+              reads = rw (ap (λ (x : Standing). x .plan) told) e;
+              counted = ap (λ (x : Standing). x .count) told;
+              brought = ap (λ (x : Standing). x .figures) told ∙ rw (ap (λ (x : Standing). x .plan) told);
+            },
+          )
+
+-- what holds of the plan, the entries and the figures of such an area
+module _ (area : List ℕ) (s : Standing) (es : List Entry) (at : OpenedAt area s es) where
+  pub read-plan : T (validPlan (s .plan))
+  read-plan = plan-of (s .plan) es (area-of-reading area (opened (s .plan) es) (at .reads) .0)
+
+  pub read-entries : T (admissible (s .plan) es)
+  read-entries = entries-of (s .plan) es (area-of-reading area (opened (s .plan) es) (at .reads) .0)
+
+  pub read-area : area ≡ areaOf (opened (s .plan) es)
+  read-area = sym (area-of-reading area (opened (s .plan) es) (at .reads) .1)
+
+  pub read-count : s .count ≤ 128
+  read-count = omega (arith, at .counted, count-within (s .plan) es read-entries)
+
+  pub read-figures : FiguresWithin (s .count) (s .figures)
+  read-figures = rw (at .counted, at .brought) (figures-within (s .plan) es read-plan read-entries)

@@ -1,0 +1,233 @@
+-- The answers of the code on an area, each as the outcome of the call. Assumes nothing.
+use Prim.Native.Nat.{ℕ, suc, _+_, _-_, _*_, _≤_, _<_}
+use mathlib.Core.Path.{_≡_, refl, sym, ap, _∙_}
+use mathlib.Core.Bool.{Bool, false}
+use mathlib.Core.List.{List, [], _∷_, append-assoc}
+use native.Mathlib.Omega.{arith}
+use lib.Dec.{T}
+use borrow.Author.Tests.{ne-eqb}
+use lib.ListN.{length}
+use Rattle.little.specs.Little.{written}
+use Rattle.model.specs.declared.Plan.{Plan}
+use Rattle.model.specs.declared.Entry.{Entry}
+use Rattle.model.specs.declared.Entry.the-variants.{Lot, Run, Block, Stop}
+use Rattle.model.specs.declared.Call.{Call}
+use Rattle.model.specs.declared.Call.the-variants.{Open, Enter, Back, Ask, Read}
+use Rattle.model.specs.declared.Figures.{Figures}
+use Rattle.model.specs.declared.Answer.{Answer}
+use Rattle.model.specs.Sizes.{recordLength, mostRecords}
+use Rattle.records.specs.declared.Record.{Record}
+use Rattle.records.specs.Records.{recordIn, recordAt}
+use Rattle.replay.specs.declared.Entered.{Entered}
+use Rattle.replay.specs.Replaying.{recordsIn, figuresTo, standTo, Replayed}
+use Rattle.replay.proofs.Parts.{sound-parts}
+use Rattle.model.specs.Stations.{Station, unopened, opened, validPlan, isContinuous}
+use Rattle.model.specs.Figuring.{sampleAsked, stepped, started, figuresOf}
+use Rattle.model.specs.Calls.{
+  firstOf,
+  entryRefusals,
+  askRefusals,
+  refusals,
+  refusalOf,
+  gives,
+  refused,
+  entryAnswer,
+  readFigure,
+  newestKind,
+  answerOf,
+  withoutNewest,
+  changed,
+  kindOf,
+  sizeInRange,
+}
+use Rattle.model.specs.Area.{
+  zeros,
+  planBytes,
+  figureBytes,
+  recordBytes,
+  recordOf,
+  recordsOf,
+  areaOf,
+  entriesIn,
+  unsound,
+  holds,
+  reading,
+  AreaOutcome,
+  onArea,
+}
+use Rattle.model.proofs.Booleans.{both-true, not-false-of}
+use Rattle.model.proofs.Allowed.{room-for, passed, allowed-run, allowed-block, allowed-stop}
+use Rattle.model.proofs.FigureBounds.{lot-size-range}
+use Rattle.model.proofs.AreaReading.{area-of-reading, part-record, records-in}
+use Rattle.model.proofs.Keeping.{accepted-station, accepted-answer, valid-opens}
+use Rattle.model.proofs.OnArea.{on-station, on-unsound, refused-station}
+use Rattle.replay.specs.declared.Standing.{Standing}
+use Rattle.listening.specs.Written.{rewritten, flagOf, FlagFits}
+use Rattle.listening.proofs.Rewriting.{entered-area, taken-area, opened-area}
+use Rattle.listening.proofs.OnReading.{OpenedAt, read-area, read-count}
+
+-- an answer, and the area after it
+abbrev pub leaves : Answer → List ℕ → AreaOutcome
+leaves r area = record { answer = r; area = area }
+
+module _ (area : List ℕ) (c : Call) (r : Answer) where
+  pub by-unsound : reading area ≡ unsound → r ≡ refused 3 → leaves r area ≡ onArea area c
+  by-unsound e given = ap (λ (a : Answer). leaves a area) given ∙ sym (on-unsound area c e)
+
+  -- a refusal on a station that the area holds
+  pub by-refusal : (st : Station) (n : ℕ) → reading area ≡ holds st → n ≡ refusalOf st c → (n ≡ 0 → ⊥) → r ≡ refused n
+      → leaves r area ≡ onArea area c
+  by-refusal st n e same applies given =
+      let kept = refused-station st c (λ z. applies (same ∙ z)) in
+      ap (λ (a : Answer). leaves a area) (given ∙ ap refused same)
+      ∙ sym (on-station area st c e ∙ rw (kept .0, kept .1, area-of-reading area st e .1))
+
+  -- an accepted call
+  pub by-call : (st : Station) (after : List ℕ) → reading area ≡ holds st → refusalOf st c ≡ 0 → r ≡ answerOf st c
+      → after ≡ areaOf (changed st c) → leaves r after ≡ onArea area c
+  by-call st after e taken given left =
+      rw (given, left) (sym (on-station area st c e ∙ rw (accepted-answer st c taken, accepted-station st c taken)))
+
+-- a call on an unopened stream that is no Open
+pub by-unopened : (area : List ℕ) (c : Call) (r : Answer) → refusalOf unopened c ≡ 6 → reading area ≡ holds unopened → r ≡ refused 6
+    → leaves r area ≡ onArea area c
+by-unopened area c r six e given = by-refusal area c r unopened 6 e (sym six) (λ z. omega arith) given
+
+-- Open
+module _ (area : List ℕ) (plan : Plan) (r : Answer) where
+  pub open-invalid : (valid : Bool) → reading area ≡ holds unopened → valid ≡ validPlan plan → valid ≡ false → r ≡ refused 5
+      → leaves r area ≡ onArea area (Open plan)
+  unfolding refusalOf refusals firstOf
+  open-invalid valid e same fails given =
+      by-refusal area (Open plan) r unopened 5 e (rw (sym same ∙ fails)) (λ z. omega arith) given
+
+  pub open-made : (after : List ℕ) → reading area ≡ holds unopened → T (validPlan plan) → r ≡ gives 0 0 0
+      → after ≡ written 16 (figureBytes (started plan)) (written 0 (planBytes plan 0) area) → leaves r after ≡ onArea area (Open plan)
+  unfolding answerOf changed
+  open-made after e valid given left =
+      by-call area (Open plan) r unopened after e (valid-opens plan valid) given
+      (left ∙ rw (sym (area-of-reading area unopened e .1)) (opened-area plan))
+
+module _ (area : List ℕ) (s : Standing) (es : List Entry) (at : OpenedAt area s es) (r : Answer) where
+  pub open-again : (plan : Plan) → r ≡ refused 4 → leaves r area ≡ onArea area (Open plan)
+  unfolding refusalOf refusals firstOf
+  open-again plan given = by-refusal area (Open plan) r (opened (s .plan) es) 4 (at .reads) refl (λ z. omega arith) given
+
+  -- Lot, Run, Block, Stop
+  refusal-of : (e : Entry) (n : ℕ) → n ≡ firstOf (entryRefusals (s .plan) (s .figures) (s .count) e)
+      → n ≡ refusalOf (opened (s .plan) es) (Enter e)
+  unfolding refusalOf refusals
+  refusal-of e n same = rw (← at .counted, ← at .brought) same
+
+  pub enter-refused : (e : Entry) (n : ℕ) → n ≡ firstOf (entryRefusals (s .plan) (s .figures) (s .count) e) → (n ≡ 0 → ⊥)
+      → r ≡ refused n → leaves r area ≡ onArea area (Enter e)
+  enter-refused e n same applies given =
+      by-refusal area (Enter e) r (opened (s .plan) es) n (at .reads) (refusal-of e n same) applies given
+
+  pub entered : (e : Entry) (n : ℕ) (after : List ℕ) (g : Figures)
+      → n ≡ firstOf (entryRefusals (s .plan) (s .figures) (s .count) e) → n ≡ 0
+      → g ≡ stepped (s .plan) e (s .figures) → r ≡ entryAnswer (s .plan) (s .figures) e
+      → after ≡ rewritten (s .count) (recordOf e) (s .count + 1) g area → leaves r after ≡ onArea area (Enter e)
+  unfolding answerOf changed figuresOf
+  entered e n after g same none stepped-on given left =
+      by-call area (Enter e) r (opened (s .plan) es) after (at .reads) (sym (refusal-of e n same) ∙ none)
+      (rw (← at .brought) given)
+      (left
+      ∙ rw (stepped-on, at .brought, at .counted, read-area area s es at)
+      (entered-area (s .plan) e es
+      (room-for (s .plan) (figuresOf (s .plan) es) (length es) e (rw (at .brought, at .counted) at (sym same ∙ none)))))
+
+  -- Ask
+  pub ask-refused : (size n : ℕ) → n ≡ firstOf (askRefusals (s .plan) (s .figures) size) → (n ≡ 0 → ⊥) → r ≡ refused n
+      → leaves r area ≡ onArea area (Ask size)
+  unfolding refusalOf refusals
+  ask-refused size n same applies given =
+      by-refusal area (Ask size) r (opened (s .plan) es) n (at .reads) (rw (← at .brought) same) applies given
+
+  pub asked : (size n : ℕ) → n ≡ firstOf (askRefusals (s .plan) (s .figures) size) → n ≡ 0
+      → r ≡ gives (sampleAsked (s .plan) (s .figures) size) 0 0 → leaves r area ≡ onArea area (Ask size)
+  unfolding refusalOf refusals answerOf changed
+  asked size n same none given =
+      by-call area (Ask size) r (opened (s .plan) es) area (at .reads) (rw (← at .brought) (sym same ∙ none))
+      (rw (← at .brought) given)
+      (read-area area s es at)
+
+  -- Read
+  pub has-read : r ≡ gives (s .count) (s .figures .accepted) (readFigure (s .plan) (s .figures)) → leaves r area ≡ onArea area Read
+  unfolding refusalOf refusals firstOf answerOf changed
+  has-read given =
+      by-call area Read r (opened (s .plan) es) area (at .reads) refl (rw (← at .counted, ← at .brought) given) (read-area area s es at)
+
+  -- Back
+  pub back-none : s .count ≡ 0 → r ≡ refused 16 → leaves r area ≡ onArea area Back
+  unfolding refusalOf refusals firstOf
+  back-none none given =
+      by-refusal area Back r (opened (s .plan) es) 16 (at .reads) (rw (sym (at .counted) ∙ none)) (λ z. omega arith) given
+
+kind-read : (e : Entry) → recordIn (recordOf e) .kind ≡ kindOf e
+unfolding recordIn recordOf recordBytes kindOf
+kind-read (Lot label N n d D) = refl
+kind-read (Run h w) = refl
+kind-read (Block q w) = refl
+kind-read (Stop why days) = refl
+
+-- the newest record of an area
+newest-record : (p : Plan) (e : Entry) (es : List Entry) → length es < 128
+    → recordIn (recordAt (areaOf (opened p (e ∷ es))) (length es)) .kind ≡ kindOf e
+unfolding recordAt recordsOf
+newest-record p e es room =
+    let rest : List ℕ = zeros (recordLength * (mostRecords - length (e ∷ es))) in
+    rw
+    (records-in p (e ∷ es) (omega arith), append-assoc (recordsOf es) (recordOf e) rest, part-record e es rest)
+    (kind-read e)
+
+module _ (area : List ℕ) (s : Standing) (e : Entry) (es : List Entry) (at : OpenedAt area s (e ∷ es)) where
+  figures-before : (before : Entered) → Replayed (s .plan) area (length es) before → before .figures ≡ figuresOf (s .plan) es
+  unfolding standTo figuresTo entriesIn
+  figures-before before replayed =
+      let parts = sound-parts (s .plan) (e ∷ es) area (at .reads) in
+      let stand = both-true (standTo (s .plan) area (length es)) _ (parts .stand) .0 in
+      let older : entriesIn (s .plan) (recordsIn area) (length es) ≡ es = cc (parts .entries) in
+      replayed .figuresAfter (replayed .allStand ∙ stand) ∙ ap (figuresOf (s .plan)) older
+
+  pub taken-back : (last : ℕ) (taken : Record) (before : Entered) (r : Answer) (after : List ℕ) → last ≡ length es
+      → taken ≡ recordIn (recordAt area last) → Replayed (s .plan) area last before
+      → r ≡ gives (taken .kind) 0 0 → after ≡ rewritten last (zeros recordLength) last (before .figures) area
+      → leaves r after ≡ onArea area Back
+  unfolding refusalOf refusals firstOf answerOf changed newestKind withoutNewest
+  taken-back last taken before r after ended read replayed given left =
+      let room : length es < 128 = omega (arith, read-count area s (e ∷ es) at, at .counted) in
+      let told : taken .kind ≡ kindOf e =
+      ap (λ (x : Record). x .kind) read ∙ rw (ended, read-area area s (e ∷ es) at) (newest-record (s .plan) e es room) in
+      let figures = figures-before before (rw ended at replayed) in
+      by-call area Back r (opened (s .plan) (e ∷ es)) after (at .reads) (rw (ne-eqb (suc (length es)) 0 (λ z. omega arith)))
+      (given ∙ ap (λ (k : ℕ). gives k 0 0) told)
+      (left ∙ rw (ended, figures, read-area area s (e ∷ es) at) (taken-area (s .plan) e es room))
+
+pub back-taken : (area : List ℕ) (s : Standing) (es : List Entry) → OpenedAt area s es
+    → (last : ℕ) (taken : Record) (before : Entered) (r : Answer) (after : List ℕ) → (s .count ≡ 0 → ⊥) → last ≡ s .count - 1
+    → taken ≡ recordIn (recordAt area last) → Replayed (s .plan) area last before
+    → r ≡ gives (taken .kind) 0 0 → after ≡ rewritten last (zeros recordLength) last (before .figures) area
+    → leaves r after ≡ onArea area Back
+back-taken area s [] at last taken before r after some ended read replayed given left = absurd (some (at .counted))
+back-taken area s (e ∷ es) at last taken before r after some ended read replayed given left =
+    taken-back area s e es at last taken before r after (omega (arith, at .counted)) read replayed given left
+
+-- the flag of an accepted entry is a byte
+pub flag-fits : (p : Plan) (f : Figures) (n : ℕ) (e : Entry) → firstOf (entryRefusals p f n e) ≡ 0 → FlagFits e
+unfolding flagOf
+flag-fits p f n (Lot label N m d D) z = omega arith
+flag-fits p f n (Run h w) z = omega (arith, allowed-run p f n h w z .wrong)
+flag-fits p f n (Block q w) z = omega (arith, allowed-block p f n q w z .wrong)
+flag-fits p f n (Stop why days) z = omega (arith, allowed-stop p f n why days z .last)
+
+-- what an ask that is not refused is known to be
+pub allowed-ask : (p : Plan) (f : Figures) (N : ℕ) → firstOf (askRefusals p f N) ≡ 0
+    → (isContinuous p ≡ false) × (1 ≤ N) × (N ≤ 1000000)
+unfolding askRefusals
+allowed-ask p f N z =
+    let seven = passed 7 _ _ (omega arith) z in
+    let eight = passed 8 _ _ (omega arith) (seven .1) in
+    let eleven = passed 11 _ _ (omega arith) (eight .1) in
+    let size = lot-size-range p N (not-false-of (sizeInRange p N) (eleven .0)) in
+    (seven .0, size .0, size .1)

@@ -1,0 +1,102 @@
+-- What the writes of a call make of an area: one entry more, one entry less, a stream opened; and a part that was lent.
+-- Assumes nothing.
+use Prim.Native.Nat.{ℕ, suc, _+_, _-_, _*_, _≤_, _<_}
+use mathlib.Core.Path.{_≡_, refl, sym, _∙_}
+use mathlib.Core.List.{List, [], _∷_, _++_, append-assoc}
+use native.Mathlib.Numerals.{add-one}
+use native.Mathlib.Omega.{arith}
+use lib.ListN.{length, take, drop, length-append, replicate-append-replicate}
+use lib.Seq.{take-at, drop-at, drop-drop}
+use Rattle.little.specs.Little.{bytes, part, written}
+use Rattle.model.specs.declared.Plan.{Plan}
+use Rattle.model.specs.declared.Entry.{Entry}
+use Rattle.model.specs.declared.Figures.{Figures}
+use Rattle.model.specs.Sizes.{recordLength, headerLength, mostRecords}
+use Rattle.model.specs.Stations.{unopened, opened}
+use Rattle.model.specs.Figuring.{started, figuresOf}
+use Rattle.model.specs.Area.{zeros, planBytes, figureBytes, recordOf, recordsOf, areaOf}
+use Rattle.model.proofs.AreaReading.{length-record, length-records, length-plan-bytes, length-figure-bytes}
+use Rattle.listening.specs.Written.{rewritten}
+
+-- a write over x, between a and z
+pub written-at : (at : ℕ) (a x z b : List ℕ) → length a ≡ at → length x ≡ length b → written at b (a ++ (x ++ z)) ≡ a ++ (b ++ z)
+unfolding written
+written-at at a x z b la lx =
+    let behind : drop (at + length b) (a ++ (x ++ z)) ≡ z =
+    rw (← drop-drop (length b) at, drop-at a (x ++ z) at la) (drop-at x z (length b) lx) in
+    rw (take-at a (x ++ z) at la, behind)
+
+-- ---- an area's record, count and figures
+
+-- a write of the count in the plan's bytes
+count-written : (p : Plan) (m n : ℕ) (z : List ℕ) → written 2 (bytes 2 n) (planBytes p m ++ z) ≡ planBytes p n ++ z
+unfolding written planBytes bytes
+count-written p m n z = refl
+
+-- record x behind the records s becomes r, the count m becomes n, and the figures f become g
+pub rewritten-area : (p : Plan) (i m n : ℕ) (f g : Figures) (s x r z : List ℕ)
+    → length s ≡ recordLength * i → length x ≡ recordLength → length r ≡ recordLength
+    → rewritten i r n g (planBytes p m ++ (figureBytes f ++ (s ++ (x ++ z)))) ≡ planBytes p n ++ (figureBytes g ++ (s ++ (r ++ z)))
+unfolding rewritten
+rewritten-area p i m n f g s x r z ls lx lr =
+    let front : List ℕ = planBytes p m ++ (figureBytes f ++ s) in
+    let before : length front ≡ headerLength + recordLength * i =
+    simp (length-append, length-plan-bytes, length-figure-bytes) (omega arith) in
+    let recorded = written-at _ front x z r before (lx ∙ sym lr) in
+    let same : length (figureBytes f) ≡ length (figureBytes g) = length-figure-bytes f ∙ sym (length-figure-bytes g) in
+    let figured = written-at 16 (planBytes p n) (figureBytes f) (s ++ (r ++ z)) (figureBytes g) (length-plan-bytes p n) same in
+    rw (simp append-assoc at recorded, count-written p m n, figured)
+
+-- what is unused behind n records
+abbrev unused : ℕ → List ℕ
+unused n = zeros (recordLength * (mostRecords - n))
+
+module _ (p : Plan) (e : Entry) (es : List Entry) (room : length es < mostRecords) where
+  -- the area before the entry: the next record is 20 zeros
+  area-before : areaOf (opened p es)
+      ≡ planBytes p (length es) ++ (figureBytes (figuresOf p es) ++ (recordsOf es ++ (zeros recordLength ++ unused (suc (length es)))))
+  unfolding areaOf
+  area-before =
+      let more : recordLength * (mostRecords - length es) ≡ recordLength + recordLength * (mostRecords - suc (length es)) =
+      omega arith in
+      rw (more, ← replicate-append-replicate recordLength)
+
+  -- and after it: the next record is the entry's
+  area-after : areaOf (opened p (e ∷ es))
+      ≡ planBytes p (suc (length es)) ++ (figureBytes (figuresOf p (e ∷ es)) ++ (recordsOf es ++ (recordOf e ++ unused (suc (length es)))))
+  unfolding areaOf recordsOf
+  area-after = rw append-assoc
+
+  -- one entry more
+  pub entered-area : rewritten (length es) (recordOf e) (length es + 1) (figuresOf p (e ∷ es)) (areaOf (opened p es))
+      ≡ areaOf (opened p (e ∷ es))
+  entered-area =
+      rw (area-before, area-after, add-one)
+      (rewritten-area p _ _ _ _ _ (recordsOf es) (zeros recordLength) (recordOf e) _ (length-records es) refl (length-record e))
+
+  -- the newest entry less
+  pub taken-area : rewritten (length es) (zeros recordLength) (length es) (figuresOf p es) (areaOf (opened p (e ∷ es)))
+      ≡ areaOf (opened p es)
+  taken-area =
+      rw (area-before, area-after)
+      (rewritten-area p _ _ _ _ _ (recordsOf es) (recordOf e) (zeros recordLength) _ (length-records es) (length-record e) refl)
+
+-- ---- a stream is opened
+
+-- the plan, then the figures, over an area of zeros
+pub opened-area : (p : Plan) → written 16 (figureBytes (started p)) (written 0 (planBytes p 0) (areaOf unopened)) ≡ areaOf (opened p [])
+unfolding written areaOf planBytes figureBytes bytes recordsOf figuresOf
+opened-area p = refl
+
+-- ---- a part that was lent
+
+-- a part that came back as ys is a write
+pub lent-back : (a e : ℕ) (ys xs : List ℕ) → a ≤ e → e ≤ length xs → length ys ≡ e - a
+    → take a xs ++ (ys ++ drop (e - a) (drop a xs)) ≡ written a ys xs
+unfolding written
+lent-back a e ys xs from to l = rw (drop-drop, l)
+
+-- what is lent is a part
+pub entry-of-lent : (a e : ℕ) (xs : List ℕ) → take (e - a) (drop a xs) ≡ part a (e - a) xs
+unfolding part
+entry-of-lent a e xs = refl

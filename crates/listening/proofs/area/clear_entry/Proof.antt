@@ -1,0 +1,25 @@
+use Rattle.listening.specs.Written.{rewritten}
+use borrow.Author.Needs.{needs}
+use Rattle.listening.proofs.area.clear_entry.Statement.{statement}
+use Rattle.listening.proofs.area.clear_entry.Tie as tie
+
+clear-record-requires : tie.Need-clear-record-requires
+clear-record-requires c κs = search needs
+
+put-count-requires : tie.Need-put-count-requires
+put-count-requires c κs = search needs
+
+put-figures-requires : tie.Need-put-figures-requires
+put-figures-requires c κs = search needs
+
+same-length : tie.Need-same-length
+same-length c = search needs
+
+returns : tie.Need-returns
+unfolding rewritten
+returns c = cc
+
+pub clear-entry-spec : {M : Type 1} → statement M
+clear-entry-spec =
+    tie.close
+    (tie.spec clear-record-requires put-count-requires put-figures-requires same-length returns)

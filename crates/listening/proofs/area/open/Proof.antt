@@ -1,0 +1,100 @@
+use Rattle.listening.proofs.OnReading.{read-unsound, read-unopened, read-opened}
+use Rattle.listening.proofs.Outcomes.{by-unsound, open-again, open-invalid, open-made}
+use Rattle.model.proofs.Allowed.{plan-range}
+use Rattle.model.proofs.Booleans.{of-holds}
+use native.Mathlib.Omega.{arith}
+use borrow.Author.Tests.{not-true, not-false}
+use mathlib.Core.Path.{sym, _∙_}
+use borrow.Author.Needs.{needs}
+use Rattle.listening.proofs.area.open.Statement.{statement}
+use Rattle.listening.proofs.area.open.Tie as tie
+
+read-requires : tie.Need-read-requires
+read-requires c κs = search needs
+
+refused-requires : tie.Need-refused-requires
+refused-requires c κs = search needs
+
+same-length : tie.Need-same-length
+same-length c = search needs
+
+returns : tie.Need-returns
+returns c =
+    let area = c .before .before .before .before .before .before .args .area .now in
+    let s = c .before .before .before .read .result in
+    let said = c .before .before .before .read .ensures in
+    by-unsound _ _ _ (read-unsound area s said (not-true (s .sound) (c .before .if1 .taken))) (c .refused .ensures)
+
+refused-requires-2 : tie.Need-refused-requires-2
+refused-requires-2 c κs = search needs
+
+same-length-2 : tie.Need-same-length-2
+same-length-2 c = search needs
+
+returns-2 : tie.Need-returns-2
+returns-2 c =
+    let area = c .before .before .before .before .before .before .before .args .area .now in
+    let s = c .before .before .before .before .read .result in
+    let said = c .before .before .before .before .read .ensures in
+    let at = read-opened area s said (c .before .if2 .taken) in
+    open-again area s (at .0) (at .1) _ _ (c .refused2 .ensures)
+
+is-valid-requires : tie.Need-is-valid-requires
+is-valid-requires c κs = search needs
+
+refused-requires-3 : tie.Need-refused-requires-3
+refused-requires-3 c κs = search needs
+
+same-length-3 : tie.Need-same-length-3
+same-length-3 c = search needs
+
+returns-3 : tie.Need-returns-3
+returns-3 c =
+    let area = c .before .before .before .before .before .before .before .before .before .args .area .now in
+    let s = c .before .before .before .before .before .before .read .result in
+    let said = c .before .before .before .before .before .before .read .ensures in
+    open-invalid area (c .before .before .before .before .before .before .before .before .before .args .plan) _ (c .before .before .is-valid .result) (read-unopened area s said (not-false (s .sound) (c .before .before .before .before .if1 .left)) (c .before .before .before .if2 .left)) (c .before .before .is-valid .ensures) (not-true (c .before .before .is-valid .result) (c .before .if3 .taken)) (c .refused3 .ensures)
+
+put-plan-requires : tie.Need-put-plan-requires
+put-plan-requires c κs = let range = plan-range (c .before .before .before .before .before .before .before .before .before .args .plan) (of-holds _ (sym (c .before .before .is-valid .ensures) ∙ not-false (c .before .before .is-valid .result) (c .before .if3 .left))) in (c .before .before .before .before .before .before .before .before .before .pre, omega arith, omega arith, omega arith)
+
+started-requires : tie.Need-started-requires
+started-requires c κs = search needs
+
+put-figures-requires : tie.Need-put-figures-requires
+put-figures-requires c κs = search needs
+
+gives-requires : tie.Need-gives-requires
+gives-requires c κs = search needs
+
+same-length-4 : tie.Need-same-length-4
+same-length-4 c = search needs
+
+returns-4 : tie.Need-returns-4
+returns-4 c =
+    let area = c .before .before .before .before .before .before .before .before .before .before .before .before .before .before .before .before .before .before .args .area .now in
+    let s = c .before .before .before .before .before .before .before .before .before .before .before .before .before .before .before .read .result in
+    let said = c .before .before .before .before .before .before .before .before .before .before .before .before .before .before .before .read .ensures in
+    open-made area (c .before .before .before .before .before .before .before .before .before .before .before .before .before .before .before .before .before .before .args .plan) _ _ (read-unopened area s said (not-false (s .sound) (c .before .before .before .before .before .before .before .before .before .before .before .before .before .if1 .left)) (c .before .before .before .before .before .before .before .before .before .before .before .before .if2 .left)) (of-holds _ (sym (c .before .before .before .before .before .before .before .before .before .before .before .is-valid .ensures) ∙ not-false (c .before .before .before .before .before .before .before .before .before .before .before .is-valid .result) (c .before .before .before .before .before .before .before .before .before .before .if3 .left))) (c .gives .ensures) (cc)
+
+pub open-spec : {M : Type 1} → statement M
+open-spec =
+    tie.close
+    (tie.spec
+    read-requires
+    refused-requires
+    same-length
+    returns
+    refused-requires-2
+    same-length-2
+    returns-2
+    is-valid-requires
+    refused-requires-3
+    same-length-3
+    returns-3
+    put-plan-requires
+    started-requires
+    put-figures-requires
+    gives-requires
+    same-length-4
+    returns-4)

@@ -1,0 +1,34 @@
+use Rattle.listening.specs.Written.{rewritten}
+use borrow.Author.Needs.{needs}
+use Rattle.listening.proofs.area.put_entry.Statement.{statement}
+use Rattle.listening.proofs.area.put_entry.Tie as tie
+
+put-record-of-requires : tie.Need-put-record-of-requires
+put-record-of-requires c κs = search needs
+
+add-put-count : tie.Need-add-put-count
+add-put-count c = search needs
+
+put-count-requires : tie.Need-put-count-requires
+put-count-requires c κs = search needs
+
+put-figures-requires : tie.Need-put-figures-requires
+put-figures-requires c κs = search needs
+
+same-length : tie.Need-same-length
+same-length c = search needs
+
+returns : tie.Need-returns
+unfolding rewritten
+returns c = cc
+
+pub put-entry-spec : {M : Type 1} → statement M
+put-entry-spec =
+    tie.close
+    (tie.spec
+    put-record-of-requires
+    add-put-count
+    put-count-requires
+    put-figures-requires
+    same-length
+    returns)

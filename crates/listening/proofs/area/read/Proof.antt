@@ -1,0 +1,79 @@
+use Rattle.listening.proofs.OnReading.{read-unsound, read-unopened, read-opened, read-figures, read-count}
+use Rattle.listening.proofs.Outcomes.{by-unsound, by-unopened, has-read}
+use Rattle.model.specs.Calls.{refusalOf, refusals, firstOf, gives}
+use Prim.Native.Nat.{ℕ}
+use native.Mathlib.Omega.{arith}
+use borrow.Author.Tests.{not-true, not-false}
+use mathlib.Core.Path.{refl, ap, _∙_}
+use borrow.Author.Needs.{needs}
+use Rattle.listening.proofs.area.read.Statement.{statement}
+use Rattle.listening.proofs.area.read.Tie as tie
+
+read-requires : tie.Need-read-requires
+read-requires c κs = search needs
+
+refused-requires : tie.Need-refused-requires
+refused-requires c κs = search needs
+
+returns : tie.Need-returns
+returns c =
+    let area = c .before .before .before .before .before .args .area .now in
+    let s = c .before .before .before .read .result in
+    let said = c .before .before .before .read .ensures in
+    by-unsound _ _ _ (read-unsound area s said (not-true (s .sound) (c .before .if1 .taken))) (c .refused .ensures)
+
+refused-requires-2 : tie.Need-refused-requires-2
+refused-requires-2 c κs = search needs
+
+returns-2 : tie.Need-returns-2
+unfolding refusalOf refusals firstOf
+returns-2 c =
+    let area = c .before .before .before .before .before .before .before .args .area .now in
+    let s = c .before .before .before .before .before .read .result in
+    let said = c .before .before .before .before .before .read .ensures in
+    by-unopened _ _ _ refl (read-unopened area s said (not-false (s .sound) (c .before .before .before .if1 .left)) (not-true (s .opened) (c .before .if2 .taken))) (c .refused2 .ensures)
+
+cast-gives : tie.Need-cast-gives
+cast-gives c =
+    let area = c .before .before .before .before .before .before .before .before .before .args .area .now in
+    let s = c .before .before .before .before .before .before .before .read .result in
+    let said = c .before .before .before .before .before .before .before .read .ensures in
+    let at = read-opened area s said (not-false (s .opened) (c .before .before .before .if2 .left)) in
+    omega (arith, read-count area s (at .0) (at .1))
+
+cast-gives-2 : tie.Need-cast-gives-2
+cast-gives-2 c =
+    let area = c .before .before .before .before .before .before .before .before .before .before .args .area .now in
+    let s = c .before .before .before .before .before .before .before .before .read .result in
+    let said = c .before .before .before .before .before .before .before .before .read .ensures in
+    let at = read-opened area s said (not-false (s .opened) (c .before .before .before .before .if2 .left)) in
+    omega (arith, read-count area s (at .0) (at .1), read-figures area s (at .0) (at .1) .acceptedIn)
+
+read-figure-requires : tie.Need-read-figure-requires
+read-figure-requires c κs = search needs
+
+gives-requires : tie.Need-gives-requires
+gives-requires c κs = search needs
+
+returns-3 : tie.Need-returns-3
+returns-3 c =
+    let area = c .before .before .before .before .before .before .before .before .before .before .before .before .args .area .now in
+    let s = c .before .before .before .before .before .before .before .before .before .before .read .result in
+    let said = c .before .before .before .before .before .before .before .before .before .before .read .ensures in
+    let at = read-opened area s said (not-false (s .opened) (c .before .before .before .before .before .before .if2 .left)) in
+    has-read area s (at .0) (at .1) _ (c .gives .ensures ∙ ap (λ (n : ℕ). gives (s .count) (s .figures .accepted) n) (c .before .read-figure .ensures))
+
+pub read-spec : {M : Type 1} → statement M
+read-spec =
+    tie.close
+    (tie.spec
+    read-requires
+    refused-requires
+    returns
+    refused-requires-2
+    returns-2
+    cast-gives
+    cast-gives-2
+    read-figure-requires
+    gives-requires
+    returns-3)

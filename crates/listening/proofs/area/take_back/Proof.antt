@@ -1,0 +1,120 @@
+use Rattle.listening.proofs.OnReading.{read-unsound, read-unopened, read-opened, read-plan, read-count}
+use Rattle.listening.proofs.Outcomes.{by-unsound, by-unopened, back-none, back-taken}
+use Rattle.model.specs.Calls.{refusalOf, refusals, firstOf}
+use native.Mathlib.Omega.{arith}
+use borrow.Author.Tests.{not-true, not-false}
+use mathlib.Core.Path.{refl}
+use borrow.Author.Needs.{needs}
+use Rattle.listening.proofs.area.take_back.Statement.{statement}
+use Rattle.listening.proofs.area.take_back.Tie as tie
+
+read-requires : tie.Need-read-requires
+read-requires c κs = search needs
+
+refused-requires : tie.Need-refused-requires
+refused-requires c κs = search needs
+
+same-length : tie.Need-same-length
+same-length c = search needs
+
+returns : tie.Need-returns
+returns c =
+    let area = c .before .before .before .before .before .before .args .area .now in
+    let s = c .before .before .before .read .result in
+    let said = c .before .before .before .read .ensures in
+    by-unsound _ _ _ (read-unsound area s said (not-true (s .sound) (c .before .if1 .taken))) (c .refused .ensures)
+
+refused-requires-2 : tie.Need-refused-requires-2
+refused-requires-2 c κs = search needs
+
+same-length-2 : tie.Need-same-length-2
+same-length-2 c = search needs
+
+returns-2 : tie.Need-returns-2
+unfolding refusalOf refusals firstOf
+returns-2 c =
+    let area = c .before .before .before .before .before .before .before .before .args .area .now in
+    let s = c .before .before .before .before .before .read .result in
+    let said = c .before .before .before .before .before .read .ensures in
+    by-unopened _ _ _ refl (read-unopened area s said (not-false (s .sound) (c .before .before .before .if1 .left)) (not-true (s .opened) (c .before .if2 .taken))) (c .refused2 .ensures)
+
+refused-requires-3 : tie.Need-refused-requires-3
+refused-requires-3 c κs = search needs
+
+same-length-3 : tie.Need-same-length-3
+same-length-3 c = search needs
+
+returns-3 : tie.Need-returns-3
+returns-3 c =
+    let area = c .before .before .before .before .before .before .before .before .before .before .args .area .now in
+    let s = c .before .before .before .before .before .before .before .read .result in
+    let said = c .before .before .before .before .before .before .before .read .ensures in
+    let at = read-opened area s said (not-false (s .opened) (c .before .before .before .if2 .left)) in
+    back-none area s (at .0) (at .1) _ (c .before .if3 .taken) (c .refused3 .ensures)
+
+sub-last : tie.Need-sub-last
+sub-last c = search needs
+
+get-record-requires : tie.Need-get-record-requires
+get-record-requires c κs =
+    let area = c .before .before .before .before .before .before .before .before .before .before .before .args .area .now in
+    let s = c .before .before .before .before .before .before .before .before .read .result in
+    let said = c .before .before .before .before .before .before .before .before .read .ensures in
+    let at = read-opened area s said (not-false (s .opened) (c .before .before .before .before .if2 .left)) in
+    (c .before .before .before .before .before .before .before .before .before .before .before .pre, omega (arith, read-count area s (at .0) (at .1), c .before .before .if3 .left))
+
+replay-requires : tie.Need-replay-requires
+replay-requires c κs =
+    let area = c .before .before .before .before .before .before .before .before .before .before .before .before .before .args .area .now in
+    let s = c .before .before .before .before .before .before .before .before .before .before .read .result in
+    let said = c .before .before .before .before .before .before .before .before .before .before .read .ensures in
+    let at = read-opened area s said (not-false (s .opened) (c .before .before .before .before .before .before .if2 .left)) in
+    (c .before .before .before .before .before .before .before .before .before .before .before .before .before .pre, read-plan area s (at .0) (at .1), omega (arith, read-count area s (at .0) (at .1)))
+
+clear-entry-requires : tie.Need-clear-entry-requires
+clear-entry-requires c κs =
+    let area = c .before .before .before .before .before .before .before .before .before .before .before .before .before .before .before .before .args .area .now in
+    let s = c .before .before .before .before .before .before .before .before .before .before .before .before .before .read .result in
+    let said = c .before .before .before .before .before .before .before .before .before .before .before .before .before .read .ensures in
+    let at = read-opened area s said (not-false (s .opened) (c .before .before .before .before .before .before .before .before .before .if2 .left)) in
+    (c .before .before .before .before .before .before .before .before .before .before .before .before .before .before .before .before .pre, omega (arith, read-count area s (at .0) (at .1), c .before .before .before .before .before .before .before .if3 .left))
+
+cast-gives : tie.Need-cast-gives
+cast-gives c = search needs
+
+gives-requires : tie.Need-gives-requires
+gives-requires c κs = search needs
+
+same-length-4 : tie.Need-same-length-4
+same-length-4 c = search needs
+
+returns-4 : tie.Need-returns-4
+returns-4 c =
+    let area = c .before .before .before .before .before .before .before .before .before .before .before .before .before .before .before .before .before .before .before .before .before .args .area .now in
+    let s = c .before .before .before .before .before .before .before .before .before .before .before .before .before .before .before .before .before .before .read .result in
+    let said = c .before .before .before .before .before .before .before .before .before .before .before .before .before .before .before .before .before .before .read .ensures in
+    let at = read-opened area s said (not-false (s .opened) (c .before .before .before .before .before .before .before .before .before .before .before .before .before .before .if2 .left)) in
+    back-taken area s (at .0) (at .1) _ (c .before .before .before .before .before .before .before .before .before .get-record .result) (c .before .before .before .before .before .before .before .replay .result) _ _ (c .before .before .before .before .before .before .before .before .before .before .before .before .if3 .left) refl (c .before .before .before .before .before .before .before .before .before .get-record .ensures) (c .before .before .before .before .before .before .before .replay .ensures) (c .gives .ensures) (c .before .before .before .before .clear-entry .ensures)
+
+pub take-back-spec : {M : Type 1} → statement M
+take-back-spec =
+    tie.close
+    (tie.spec
+    read-requires
+    refused-requires
+    same-length
+    returns
+    refused-requires-2
+    same-length-2
+    returns-2
+    refused-requires-3
+    same-length-3
+    returns-3
+    sub-last
+    get-record-requires
+    replay-requires
+    clear-entry-requires
+    cast-gives
+    gives-requires
+    same-length-4
+    returns-4)

@@ -1,0 +1,55 @@
+use Prim.Native.Nat.{_+_, _*_, _-_}
+use Rattle.listening.proofs.Lending.{by-length, by-number, by-look}
+use native.Mathlib.Omega.{arith}
+use borrow.Author.Needs.{needs}
+use Rattle.listening.proofs.read.Statement.{statement}
+use Rattle.listening.proofs.read.Tie as tie
+
+refused-requires : tie.Need-refused-requires
+refused-requires c κs = search needs
+
+returns : tie.Need-returns
+returns c = by-length _ _ _ _ (c .before .if1 .taken) (c .refused .ensures)
+
+refused-requires-2 : tie.Need-refused-requires-2
+refused-requires-2 c κs = search needs
+
+returns-2 : tie.Need-returns-2
+returns-2 c = by-number _ _ _ _ (c .before .before .if1 .left) (c .before .if2 .taken) (c .refused2 .ensures)
+
+mul-start : tie.Need-mul-start
+mul-start c = search needs
+
+add-end : tie.Need-add-end
+add-end c = search needs
+
+sub-read : tie.Need-sub-read
+sub-read c = search needs
+
+part-read-start : tie.Need-part-read-start
+part-read-start c = search needs
+
+part-read-end : tie.Need-part-read-end
+part-read-end c = search needs
+
+read-requires : tie.Need-read-requires
+read-requires c κs = search needs
+
+returns-3 : tie.Need-returns-3
+returns-3 c = by-look (c .before .before .before .before .before .args .store .now) (c .before .before .before .before .before .args .stream) _ _ (c .before .before .before .before .before .args .stream * 2608) (c .before .before .before .before .before .args .stream * 2608 + 2608 - c .before .before .before .before .before .args .stream * 2608) (c .before .before .before .if1 .left) (c .before .before .if2 .left) (omega arith) (omega arith) (c .read .ensures)
+
+pub read-spec : {M : Type 1} → statement M
+read-spec =
+    tie.close
+    (tie.spec
+    refused-requires
+    returns
+    refused-requires-2
+    returns-2
+    mul-start
+    add-end
+    sub-read
+    part-read-start
+    part-read-end
+    read-requires
+    returns-3)

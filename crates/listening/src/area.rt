@@ -1,0 +1,190 @@
+// The calls on one stream's area: read it, refuse or not, write what changed. Paper 01, "Calls".
+ghost use mathlib.Core.Path.{_≡_};
+ghost use Prim.Native.Nat.{_+_, _*_, _<_, _≤_};
+ghost use lib.ListN.{length};
+ghost use Rattle.little.specs.Little.{written};
+ghost use Rattle.model.specs.declared.Call.the-variants.{Open, Enter, Back, Ask, Read};
+ghost use Rattle.model.specs.Sizes.{areaLength, recordLength, headerLength};
+ghost use Rattle.model.specs.Area.{zeros, recordOf, onArea};
+ghost use Rattle.listening.specs.Written.{rewritten, FlagFits};
+use model::Answer;
+use model::Call;
+use model::Entry;
+use model::Figures;
+use model::Plan;
+use rules::answering;
+use rules::asking;
+use rules::plan;
+use rules::refusing;
+use rules::stepping;
+
+// Makes a call on an area.
+pub fn make(area: &mut [u8], call: Call) -> Answer
+    requires { ⌜ length (now area) ≡ areaLength ⌝ }
+    ensures { λ r. ⌜ record { answer = r; area = now (area .exit) } ≡ onArea (now (area .entry)) call ⌝ }
+{
+    match call {
+        Call::Open(plan) => open(area, plan),
+        Call::Enter(entry) => enter(area, entry),
+        Call::Back => take_back(area),
+        Call::Ask(size) => ask(area, size),
+        Call::Read => read(area),
+    }
+}
+
+// Opens the stream.
+fn open(area: &mut [u8], plan: Plan) -> Answer
+    requires { ⌜ length (now area) ≡ areaLength ⌝ }
+    ensures { λ r. ⌜ record { answer = r; area = now (area .exit) } ≡ onArea (now (area .entry)) (Open plan) ⌝ }
+{
+    let standing = replay::read(area);
+    if !standing.sound {
+        return answering::refused(3);
+    }
+    if standing.opened {
+        return answering::refused(4);
+    }
+    if !plan::is_valid(plan) {
+        return answering::refused(5);
+    }
+    records::put_plan(area, plan);
+    records::put_figures(area, plan::started(plan));
+    answering::gives(0, 0, 0)
+}
+
+// Enters a lot, run, block or stop.
+fn enter(area: &mut [u8], entry: Entry) -> Answer
+    requires { ⌜ length (now area) ≡ areaLength ⌝ }
+    ensures { λ r. ⌜ record { answer = r; area = now (area .exit) } ≡ onArea (now (area .entry)) (Enter entry) ⌝ }
+{
+    let standing = replay::read(area);
+    if !standing.sound {
+        return answering::refused(3);
+    }
+    if !standing.opened {
+        return answering::refused(6);
+    }
+    let plan = standing.plan;
+    let figures = standing.figures;
+    let count = standing.count;
+    let refusal = refusing::entry(plan, figures, count, entry);
+    if refusal != 0 {
+        return answering::refused(refusal);
+    }
+    let after = stepping::entry(plan, figures, count, entry);
+    put_entry(area, count, after, entry);
+    answering::entry(plan, figures, after, count, entry)
+}
+
+// Takes the newest entry back.
+fn take_back(area: &mut [u8]) -> Answer
+    requires { ⌜ length (now area) ≡ areaLength ⌝ }
+    ensures { λ r. ⌜ record { answer = r; area = now (area .exit) } ≡ onArea (now (area .entry)) Back ⌝ }
+{
+    let standing = replay::read(area);
+    if !standing.sound {
+        return answering::refused(3);
+    }
+    if !standing.opened {
+        return answering::refused(6);
+    }
+    if standing.count == 0 {
+        return answering::refused(16);
+    }
+    let last = standing.count - 1;
+    let taken = records::get_record(area, last);
+    let before = replay::replay(area, standing.plan, last);
+    let figures = before.figures;
+    clear_entry(area, last, figures);
+    answering::gives(taken.kind as u32, 0, 0)
+}
+
+// The sample that a lot asks for.
+pub fn ask(area: &[u8], size: u32) -> Answer
+    requires { ⌜ length (now area) ≡ areaLength ⌝ }
+    ensures { λ r. ⌜ record { answer = r; area = now (area .entry) } ≡ onArea (now (area .entry)) (Ask size) ⌝ }
+{
+    let standing = replay::read(area);
+    if !standing.sound {
+        return answering::refused(3);
+    }
+    if !standing.opened {
+        return answering::refused(6);
+    }
+    let plan = standing.plan;
+    let figures = standing.figures;
+    let refusal = refusing::ask(plan, figures, size);
+    if refusal != 0 {
+        return answering::refused(refusal);
+    }
+    answering::gives(asking::sample(plan, figures, size), 0, 0)
+}
+
+// The count, what is accepted, and the figure of the plan.
+pub fn read(area: &[u8]) -> Answer
+    requires { ⌜ length (now area) ≡ areaLength ⌝ }
+    ensures { λ r. ⌜ record { answer = r; area = now (area .entry) } ≡ onArea (now (area .entry)) Read ⌝ }
+{
+    let standing = replay::read(area);
+    if !standing.sound {
+        return answering::refused(3);
+    }
+    if !standing.opened {
+        return answering::refused(6);
+    }
+    let plan = standing.plan;
+    let figures = standing.figures;
+    answering::gives(
+        standing.count as u32,
+        figures.accepted as u32,
+        answering::read_figure(plan, figures),
+    )
+}
+
+// Writes an entry as the next record, with the figures after it.
+fn put_entry(area: &mut [u8], count: usize, figures: Figures, entry: Entry)
+    requires { ⌜ (length (now area) ≡ areaLength) × (count < 128) × FlagFits entry ⌝ }
+    ensures { λ _. ⌜ now (area .exit) ≡ rewritten count (recordOf entry) (count + 1) figures (now (area .entry)) ⌝ }
+{
+    put_record_of(area, count, entry);
+    records::put_count(area, count + 1);
+    records::put_figures(area, figures);
+}
+
+// Clears the last record, and writes the figures before it.
+fn clear_entry(area: &mut [u8], last: usize, figures: Figures)
+    requires { ⌜ (length (now area) ≡ areaLength) × (last < 128) ⌝ }
+    ensures { λ _. ⌜ now (area .exit) ≡ rewritten last (zeros recordLength) last figures (now (area .entry)) ⌝ }
+{
+    records::clear_record(area, last);
+    records::put_count(area, last);
+    records::put_figures(area, figures);
+}
+
+// The record writer: an entry's record in the part of the store that is lent.
+fn put_record_of(area: &mut [u8], i: usize, entry: Entry)
+    requires { ⌜ (length (now area) ≡ areaLength) × (i < 128) × FlagFits entry ⌝ }
+    ensures { λ _. ⌜ now (area .exit) ≡ written (headerLength + recordLength * i) (recordOf entry) (now (area .entry)) ⌝ }
+{
+    match entry {
+        Entry::Lot {
+            label,
+            size,
+            sample: _,
+            wrong,
+            wrong_in_all,
+        } => records::put_record(area, i, 1, 0, label, size, wrong, wrong_in_all),
+        Entry::Run { right, wrong } => records::put_record(area, i, 2, wrong as u8, right, 0, 0, 0),
+        Entry::Block { heard, wrong } => records::put_record(
+            area,
+            i,
+            3,
+            wrong as u8,
+            heard,
+            0,
+            0,
+            0,
+        ),
+        Entry::Stop { why, days } => records::put_record(area, i, 4, why as u8, days, 0, 0, 0),
+    }
+}

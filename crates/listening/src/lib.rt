@@ -1,0 +1,125 @@
+// The listening controller: paper 01's eight calls on a lent store of sixteen streams, and whole lists of calls. No call asks
+// anything of its caller: bad input gets a refusal number, and the store stays as it was.
+mod area;
+
+ghost use mathlib.Core.Path.{_≡_};
+ghost use Rattle.model.specs.declared.Entry.the-variants.{Lot, Run, Block, Stop};
+ghost use Rattle.model.specs.declared.Call.the-variants.{Open, Enter, Back, Ask, Read};
+ghost use Rattle.model.specs.Store.{onStore};
+ghost use Rattle.model.specs.Claims.{on};
+ghost use Rattle.listening.specs.Written.{planOf};
+use model::Answer;
+use model::Call;
+use model::Entry;
+use model::Plan;
+use rules::answering;
+
+pub const STREAMS: u32 = 16;
+
+// 41,728
+pub const STORE_LENGTH: usize = 16 * records::AREA_LENGTH;
+
+// Opens a stream with a plan.
+pub fn open(store: &mut [u8], stream: u32, kind: u32, option: u32, a: u32, b: u32) -> Answer
+    ensures { λ r. ⌜ record { answer = r; store = now (store .exit) } ≡ onStore (now (store .entry)) (on stream (Open (planOf kind option a b))) ⌝ }
+{
+    make(store, stream, Call::Open(Plan { kind, option, a, b }))
+}
+
+// Enters a lot.
+pub fn lot(
+    store: &mut [u8],
+    stream: u32,
+    label: u32,
+    size: u32,
+    sample: u32,
+    wrong: u32,
+    all: u32,
+) -> Answer
+    ensures { λ r. ⌜ record { answer = r; store = now (store .exit) } ≡ onStore (now (store .entry)) (on stream (Enter (Lot label size sample wrong all))) ⌝ }
+{
+    make(
+        store,
+        stream,
+        Call::Enter(Entry::Lot {
+            label,
+            size,
+            sample,
+            wrong,
+            wrong_in_all: all,
+        }),
+    )
+}
+
+// Enters a run.
+pub fn run(store: &mut [u8], stream: u32, right: u32, wrong: u32) -> Answer
+    ensures { λ r. ⌜ record { answer = r; store = now (store .exit) } ≡ onStore (now (store .entry)) (on stream (Enter (Run right wrong))) ⌝ }
+{
+    make(store, stream, Call::Enter(Entry::Run { right, wrong }))
+}
+
+// Enters a block.
+pub fn block(store: &mut [u8], stream: u32, heard: u32, wrong: u32) -> Answer
+    ensures { λ r. ⌜ record { answer = r; store = now (store .exit) } ≡ onStore (now (store .entry)) (on stream (Enter (Block heard wrong))) ⌝ }
+{
+    make(store, stream, Call::Enter(Entry::Block { heard, wrong }))
+}
+
+// Enters a stop.
+pub fn stop(store: &mut [u8], stream: u32, why: u32, days: u32) -> Answer
+    ensures { λ r. ⌜ record { answer = r; store = now (store .exit) } ≡ onStore (now (store .entry)) (on stream (Enter (Stop why days))) ⌝ }
+{
+    make(store, stream, Call::Enter(Entry::Stop { why, days }))
+}
+
+// Takes the newest entry back.
+pub fn back(store: &mut [u8], stream: u32) -> Answer
+    ensures { λ r. ⌜ record { answer = r; store = now (store .exit) } ≡ onStore (now (store .entry)) (on stream Back) ⌝ }
+{
+    make(store, stream, Call::Back)
+}
+
+// The sample that a lot would ask for.
+pub fn ask(store: &[u8], stream: u32, size: u32) -> Answer
+    ensures { λ r. ⌜ record { answer = r; store = now (store .entry) } ≡ onStore (now (store .entry)) (on stream (Ask size)) ⌝ }
+{
+    if store.len() != STORE_LENGTH {
+        return answering::refused(1);
+    }
+    if STREAMS <= stream {
+        return answering::refused(2);
+    }
+    let start = stream as usize * records::AREA_LENGTH;
+    let end = start + records::AREA_LENGTH;
+    area::ask(&store[start..end], size)
+}
+
+// The count, what is accepted, and the figure of the plan.
+pub fn read(store: &[u8], stream: u32) -> Answer
+    ensures { λ r. ⌜ record { answer = r; store = now (store .entry) } ≡ onStore (now (store .entry)) (on stream Read) ⌝ }
+{
+    if store.len() != STORE_LENGTH {
+        return answering::refused(1);
+    }
+    if STREAMS <= stream {
+        return answering::refused(2);
+    }
+    let start = stream as usize * records::AREA_LENGTH;
+    let end = start + records::AREA_LENGTH;
+    area::read(&store[start..end])
+}
+
+// Makes any of the calls: the part of the store that starts at the stream's offset is lent on.
+pub fn make(store: &mut [u8], stream: u32, call: Call) -> Answer
+    ensures { λ r. ⌜ record { answer = r; store = now (store .exit) } ≡ onStore (now (store .entry)) (on stream call) ⌝ }
+{
+    if store.len() != STORE_LENGTH {
+        return answering::refused(1);
+    }
+    if STREAMS <= stream {
+        return answering::refused(2);
+    }
+    let start = stream as usize * records::AREA_LENGTH;
+    let end = start + records::AREA_LENGTH;
+    area::make(&mut store[start..end], call)
+}

@@ -1,0 +1,145 @@
+-- Parts of a list of bytes and what they hold, writes one behind the other, and tests that decide a statement.
+-- Assumes nothing.
+use mathlib.Core.Path.{_≡_, refl, sym, ap, _∙_}
+use mathlib.Core.Bool.{Bool, true, false}
+use mathlib.Core.List.{List, [], _∷_, _++_}
+use Prim.Native.Nat.{ℕ, zero, suc, _+_, _*_, _^_, _≤_, _<_}
+use native.Mathlib.Nat.{add-zero, add-assoc}
+use native.Mathlib.Omega.{arith}
+use lib.Dec.{lit<, lit≤}
+use lib.ListN.{length, drop, getD, set, length-take, length-drop}
+use lib.Seq.{getD-take, getD-drop, drop-cons, drop-drop, take-add, ext-getD}
+use Rattle.little.specs.Little.{bytes, value, part, written, AreBytes}
+use Rattle.little.proofs.Laws.{value-bytes, bytes-value, length-part, length-written, set-written, written-next}
+use Rattle.model.specs.Sizes.{recordLength, headerLength, mostRecords}
+use Rattle.records.specs.Records.{recordIn, recordAt, Decides}
+
+-- ---- parts
+
+pub getD-part : (at k : ℕ) (s : List ℕ) (i : ℕ) → i < k → getD (part at k s) i 0 ≡ getD s (at + i) 0
+unfolding part
+getD-part at k s i h = rw (getD-take k (drop at s) i 0 h, getD-drop at s i 0)
+
+-- no byte stands past a part's end
+length-part-le : (at k : ℕ) (s : List ℕ) → length (part at k s) ≤ k
+unfolding part
+length-part-le at k s = rw length-take (omega arith)
+
+length-part-part : (at m j k : ℕ) (s : List ℕ) → j + k ≤ m → length (part j k (part at m s)) ≡ length (part (at + j) k s)
+unfolding part
+length-part-part at m j k s h = simp (length-take, length-drop) (omega arith)
+
+-- a part of a part
+pub part-part : (at m j k : ℕ) (s : List ℕ) → j + k ≤ m → part j k (part at m s) ≡ part (at + j) k s
+part-part at m j k s h =
+    ext-getD 0 _ _ (length-part-part at m j k s h)
+    (λ i l.
+    let l′ : i < k = omega (arith, length-part-le j k (part at m s)) in
+    rw (getD-part j k (part at m s) i l′, getD-part at m s (j + i) (omega arith), getD-part (at + j) k s i l′, add-assoc))
+
+-- the elements of a part of bytes are bytes
+pub part-bytes : (at k : ℕ) (s : List ℕ) → AreBytes s → AreBytes (part at k s)
+unfolding part
+part-bytes at zero s h i = lit< tt
+part-bytes zero (suc k) [] h i = lit< tt
+part-bytes zero (suc k) (x ∷ s) h zero = h 0
+part-bytes zero (suc k) (x ∷ s) h (suc i) = part-bytes zero k s (λ j. h (suc j)) i
+part-bytes (suc at) (suc k) [] h i = lit< tt
+part-bytes (suc at) (suc k) (x ∷ s) h i = part-bytes at (suc k) s (λ j. h (suc j)) i
+
+-- bytes that hold a number are the number's bytes
+pub part-of-value : (at k n : ℕ) (s : List ℕ) → AreBytes s → at + k ≤ length s → value (part at k s) ≡ n → part at k s ≡ bytes k n
+part-of-value at k n s h fits e =
+    sym (rw (length-part at k s fits) at (bytes-value (part at k s) (part-bytes at k s h))) ∙ ap (bytes k) e
+
+-- a part of one byte
+pub part-of-byte : (at n : ℕ) (s : List ℕ) → at < length s → getD s at 0 ≡ n → part at 1 s ≡ n ∷ []
+unfolding part
+part-of-byte at n s h e = rw (drop-cons s at 0 h, e)
+
+-- two neighbouring parts are one
+pub part-join : (at j k : ℕ) {next : ℕ} (a b s : List ℕ) → part at j s ≡ a → next ≡ at + j → part next k s ≡ b → part at (j + k) s ≡ a ++ b
+unfolding part
+part-join at j k a b s p e q = rw (take-add j k (drop at s), drop-drop j at s, ← e, p, q)
+
+-- ---- records
+
+-- an area's i-th record as a part of the area
+pub record-at : (area : List ℕ) (i : ℕ) → i < mostRecords → recordAt area i ≡ part (headerLength + recordLength * i) recordLength area
+unfolding recordAt
+record-at area i h = part-part headerLength (recordLength * mostRecords) (recordLength * i) recordLength area (omega arith)
+
+-- and the numbers in it, each where it stands in the area
+pub record-read : (area : List ℕ) (at i : ℕ) → at ≡ headerLength + recordLength * i → i < mostRecords → recordIn (recordAt area i) ≡ record {
+  kind = getD area at 0;
+  flag = getD area (at + 1) 0;
+  spare = value (part (at + 2) 2 area);
+  a = value (part (at + 4) 4 area);
+  b = value (part (at + 8) 4 area);
+  c = value (part (at + 12) 4 area);
+  d = value (part (at + 16) 4 area);
+}
+unfolding recordIn
+record-read area at i e h =
+    rw (
+      record-at area i h,
+      ← e,
+      getD-part at recordLength area 0 (lit< tt),
+      add-zero,
+      getD-part at recordLength area 1 (lit< tt),
+      part-part at recordLength 2 2 area (lit≤ tt),
+      part-part at recordLength 4 4 area (lit≤ tt),
+      part-part at recordLength 8 4 area (lit≤ tt),
+      part-part at recordLength 12 4 area (lit≤ tt),
+      part-part at recordLength 16 4 area (lit≤ tt),
+    )
+
+-- ---- writes
+
+-- a write, and one behind it
+pub then-written : (at : ℕ) {next : ℕ} (a b : List ℕ) (s : List ℕ) {t u : List ℕ} → t ≡ written at a s → u ≡ written next b t → next ≡ at + length a → next + length b ≤ length s → u ≡ written at (a ++ b) s
+then-written at a b s p q e fits = q ∙ rw (p, e) (written-next at a b s (omega arith))
+
+-- a list that a write gave is as long as before
+pub length-after : (at : ℕ) (b s : List ℕ) {t : List ℕ} → t ≡ written at b s → at + length b ≤ length s → length t ≡ length s
+length-after at b s e fits = rw e (length-written at b s fits)
+
+-- a write, and a store behind it
+pub then-set : (at : ℕ) {next : ℕ} (a : List ℕ) (x : ℕ) (s : List ℕ) {t : List ℕ} → t ≡ written at a s → next ≡ at + length a → next < length s → set t next x ≡ written at (a ++ (x ∷ [])) s
+then-set at {next} a x s {t} p e h =
+    then-written at a (x ∷ []) s p (set-written next x t (omega (arith, length-after at a s p (omega arith)))) e (omega arith)
+
+-- ---- tests
+
+never : {b : Bool} → b ≡ true → b ≡ false → ⊥
+never t f = let z : _≡_ {A = ℕ} 0 1 = cc in omega arith
+
+-- an answer that is no, of what does not hold
+pub refuted : {P : Type 0} → (P → ⊥) → Decides false P
+refuted nay = record { shows = λ e. absurd (never e refl); shown = λ p. absurd (nay p) }
+
+-- an answer that is yes, of what holds
+pub proven : {P : Type 0} → P → Decides true P
+proven p = record { shows = λ e. p; shown = λ q. refl }
+
+-- what was decided not to hold does not
+pub decided-not : {b : Bool} {P : Type 0} → Decides b P → b ≡ false → P → ⊥
+decided-not d e p = never (d .shown p) e
+
+-- what decides a statement decides one that says as much
+pub decides-same : {b : Bool} {P Q : Type 0} → (P → Q) → (Q → P) → Decides b P → Decides b Q
+decides-same to from d = record { shows = λ e. to (d .shows e); shown = λ q. d .shown (from q) }
+
+-- where a part of the bytes is not what it is to be, they are not
+pub part-differs : (at m j k : ℕ) (s w : List ℕ) → j + k ≤ m → (part (at + j) k s ≡ part j k w → ⊥) → Decides false (part at m s ≡ w)
+part-differs at m j k s w h nay = refuted (λ e. nay (sym (part-part at m j k s h) ∙ ap (part j k) e))
+
+-- where the number in a part is not what it is to be, they are not
+pub value-differs : (at m j k n : ℕ) (s w : List ℕ) → j + k ≤ m → n < 256 ^ k → part j k w ≡ bytes k n → (value (part (at + j) k s) ≡ n → ⊥) → Decides false (part at m s ≡ w)
+value-differs at m j k n s w h room is nay =
+    part-differs at m j k s w h (λ e. nay (ap value (e ∙ is) ∙ value-bytes k room))
+
+-- where a byte is not what it is to be, they are not
+pub byte-differs : (at m j n : ℕ) (s w : List ℕ) → j < m → getD w j 0 ≡ n → (getD s (at + j) 0 ≡ n → ⊥) → Decides false (part at m s ≡ w)
+byte-differs at m j n s w h is nay =
+    refuted (λ e. nay (sym (getD-part at m s j h) ∙ ap (λ (l : List ℕ). getD l j 0) e ∙ is))

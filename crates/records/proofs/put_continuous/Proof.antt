@@ -1,0 +1,46 @@
+-- `records::put_continuous` meets its contract: the writes and the stores are neighbours.
+-- Assumes nothing.
+use borrow.Author.Needs.{needs}
+use native.Mathlib.Omega.{arith}
+use mathlib.Core.Path.{refl}
+use Rattle.little.specs.Little.{bytes}
+use lib.ListN.{length-set}
+use Rattle.records.specs.Records.{continuousBytes}
+use Rattle.records.proofs.Laws.{then-written, then-set, length-after}
+use Rattle.records.proofs.put_continuous.Statement.{statement}
+use Rattle.records.proofs.put_continuous.Tie as tie
+
+put-u32-requires : tie.Need-put-u32-requires
+put-u32-requires c κs = search needs
+
+slice-write-area : tie.Need-slice-write-area
+slice-write-area c = search needs
+
+slice-write-area-2 : tie.Need-slice-write-area-2
+slice-write-area-2 c = search needs
+
+put-u16-requires : tie.Need-put-u16-requires
+put-u16-requires c κs = simp length-set (omega arith)
+
+returns : tie.Need-returns
+unfolding bytes continuousBytes
+returns c =
+    let store = c .before .before .before .before .before .before in
+    let phase = then-set 24 _ (store .before .before .before .args .state .phase) _ (store .put-u32 .ensures) refl (omega arith) in
+    let unused = then-set 24 _ 0 _ phase refl (omega arith) in
+    then-written 24 _ _ _ unused (c .before .before .put-u16 .ensures) refl (omega arith)
+
+same-length : tie.Need-same-length
+unfolding bytes continuousBytes
+same-length c = length-after 24 _ _ (returns c) (omega arith)
+
+pub put-continuous-spec : {M : Type 1} → statement M
+put-continuous-spec =
+    tie.close
+    (tie.spec
+    put-u32-requires
+    slice-write-area
+    slice-write-area-2
+    put-u16-requires
+    same-length
+    returns)

@@ -1,0 +1,50 @@
+-- `records::put_level` meets its contract: the write and the stores are neighbours.
+-- Assumes nothing.
+use borrow.Author.Needs.{needs}
+use native.Mathlib.Omega.{arith}
+use mathlib.Core.Path.{refl}
+use Rattle.little.specs.Little.{bytes}
+use lib.ListN.{length-set}
+use Rattle.records.specs.Records.{levelBytes}
+use Rattle.records.proofs.Laws.{then-set}
+use Rattle.records.proofs.put_level.Statement.{statement}
+use Rattle.records.proofs.put_level.Tie as tie
+
+put-u32-requires : tie.Need-put-u32-requires
+put-u32-requires c κs = search needs
+
+slice-write-area : tie.Need-slice-write-area
+slice-write-area c = search needs
+
+slice-write-area-2 : tie.Need-slice-write-area-2
+slice-write-area-2 c = search needs
+
+slice-write-area-3 : tie.Need-slice-write-area-3
+slice-write-area-3 c = simp length-set (omega arith)
+
+slice-write-area-4 : tie.Need-slice-write-area-4
+slice-write-area-4 c = simp length-set (omega arith)
+
+same-length : tie.Need-same-length
+same-length c = search needs
+
+returns : tie.Need-returns
+unfolding bytes levelBytes
+returns c =
+    let state = c .before .before .before .before .before .args .state in
+    let level = then-set 16 _ (state .level) _ (c .before .before .put-u32 .ensures) refl (omega arith) in
+    let row = then-set 16 _ (state .row) _ level refl (omega arith) in
+    let judged = then-set 16 _ (state .judged) _ row refl (omega arith) in
+    then-set 16 _ _ _ judged refl (omega arith)
+
+pub put-level-spec : {M : Type 1} → statement M
+put-level-spec =
+    tie.close
+    (tie.spec
+    put-u32-requires
+    slice-write-area
+    slice-write-area-2
+    slice-write-area-3
+    slice-write-area-4
+    same-length
+    returns)

@@ -1,0 +1,50 @@
+-- `records::put_marks` meets its contract: the stores and the write are neighbours.
+-- Assumes nothing.
+use borrow.Author.Needs.{needs}
+use native.Mathlib.Omega.{arith}
+use mathlib.Core.Path.{refl}
+use mathlib.Core.List.{[], _∷_}
+use Rattle.little.specs.Little.{bytes}
+use Rattle.little.proofs.Laws.{set-written}
+use Rattle.records.proofs.Laws.{then-written, then-set, length-after}
+use lib.ListN.{length-set}
+use Rattle.records.proofs.put_marks.Statement.{statement}
+use Rattle.records.proofs.put_marks.Tie as tie
+
+slice-write-area : tie.Need-slice-write-area
+slice-write-area c = search needs
+
+add-area : tie.Need-add-area
+add-area c = search needs
+
+slice-write-area-2 : tie.Need-slice-write-area-2
+slice-write-area-2 c = simp length-set (omega arith)
+
+add-put-u16 : tie.Need-add-put-u16
+add-put-u16 c = search needs
+
+put-u16-requires : tie.Need-put-u16-requires
+put-u16-requires c κs = simp length-set (omega arith)
+
+returns : tie.Need-returns
+unfolding bytes
+returns c =
+    let args = c .before .before .before .before .before .args in
+    let first = set-written (args .at) (args .first) (args .area .now) (omega arith) in
+    let second = then-set (args .at) (args .first ∷ []) (args .second) (args .area .now) first refl (omega arith) in
+    then-written (args .at) (args .first ∷ args .second ∷ []) (bytes 2 0) (args .area .now) second (c .before .before .put-u16 .ensures) refl (omega arith)
+
+same-length : tie.Need-same-length
+same-length c = length-after _ _ _ (returns c) (omega arith)
+
+pub put-marks-spec : {M : Type 1} → statement M
+put-marks-spec =
+    tie.close
+    (tie.spec
+    slice-write-area
+    add-area
+    slice-write-area-2
+    add-put-u16
+    put-u16-requires
+    same-length
+    returns)

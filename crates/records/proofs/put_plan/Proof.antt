@@ -1,0 +1,65 @@
+-- `records::put_plan` meets its contract: the writes are neighbours, and their bytes the plan's.
+-- Assumes nothing.
+use borrow.Author.Needs.{needs}
+use native.Mathlib.Omega.{arith}
+use mathlib.Core.Path.{refl}
+use Rattle.little.specs.Little.{bytes}
+use Rattle.model.specs.Area.{planBytes}
+use Rattle.records.proofs.Laws.{then-written}
+use Rattle.records.proofs.put_plan.Statement.{statement}
+use Rattle.records.proofs.put_plan.Tie as tie
+
+cast-put-marks : tie.Need-cast-put-marks
+cast-put-marks c = search needs
+
+cast-put-marks-2 : tie.Need-cast-put-marks-2
+cast-put-marks-2 c = search needs
+
+put-marks-requires : tie.Need-put-marks-requires
+put-marks-requires c κs = search needs
+
+put-u32-requires : tie.Need-put-u32-requires
+put-u32-requires c κs = search needs
+
+cast-put-u16 : tie.Need-cast-put-u16
+cast-put-u16 c = search needs
+
+put-u16-requires : tie.Need-put-u16-requires
+put-u16-requires c κs = search needs
+
+put-u16-requires-2 : tie.Need-put-u16-requires-2
+put-u16-requires-2 c κs = search needs
+
+put-u32-requires-2 : tie.Need-put-u32-requires-2
+put-u32-requires-2 c κs = search needs
+
+same-length : tie.Need-same-length
+same-length c = search needs
+
+returns : tie.Need-returns
+unfolding bytes planBytes
+returns c =
+    let at-four = c .before .before in
+    let at-two = at-four .before .before .before .before in
+    let at-b = at-two .before .before .before .before in
+    let at-a = at-b .before .before .before .before .before in
+    let at-marks = at-a .before .before .before .before in
+    let a = then-written 0 _ _ _ (at-marks .put-marks .ensures) (at-a .put-u32 .ensures) refl (omega arith) in
+    let b = then-written 0 _ _ _ a (at-b .put-u16 .ensures) refl (omega arith) in
+    let zeros = then-written 0 _ _ _ b (at-two .put-u162 .ensures) refl (omega arith) in
+    then-written 0 _ _ _ zeros (at-four .put-u322 .ensures) refl (omega arith)
+
+pub put-plan-spec : {M : Type 1} → statement M
+put-plan-spec =
+    tie.close
+    (tie.spec
+    cast-put-marks
+    cast-put-marks-2
+    put-marks-requires
+    put-u32-requires
+    cast-put-u16
+    put-u16-requires
+    put-u16-requires-2
+    put-u32-requires-2
+    same-length
+    returns)

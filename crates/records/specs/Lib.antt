@@ -1,0 +1,2 @@
+-- `Records` has what the contracts of `src/` cite.
+pub mod Records

@@ -1,0 +1,252 @@
+// One record, the plan and the figures of a stream's area, between bytes and values: paper 01, "The store".
+//
+// The offsets are those of model's specs/Area.antt. Nothing here knows the list of entries, or a refusal.
+ghost use mathlib.Core.Path.{_≡_};
+ghost use mathlib.Core.List.{_++_, _∷_, []};
+ghost use Prim.Native.Nat.{_+_, _-_, _*_, _≤_, _<_};
+ghost use lib.ListN.{length, drop};
+ghost use Rattle.little.specs.Little.{bytes, part, written};
+ghost use Rattle.model.specs.Sizes.{recordLength, headerLength, mostRecords, areaLength};
+ghost use Rattle.model.specs.Area.{zeros, planBytes, figureBytes, recordBytes, planIn, countIn};
+ghost use Rattle.records.specs.Records.{recordIn, recordAt, levelBytes, continuousBytes, Decides};
+use model::Figures;
+use model::Plan;
+use plans::continuous::Continuous;
+use plans::credit::Credit;
+use plans::level::LevelState;
+
+pub const RECORD_LENGTH: usize = 20;
+
+// Where the records start in an area.
+pub const HEADER_LENGTH: usize = 48;
+
+pub const MOST_RECORDS: usize = 128;
+
+// 2,608
+pub const AREA_LENGTH: usize = HEADER_LENGTH + RECORD_LENGTH * MOST_RECORDS;
+
+// A record as it stands in the bytes, whatever its kind.
+pub struct Record {
+    pub kind: u8,
+    pub flag: u8,
+    // zero in a sound store
+    pub spare: u16,
+    pub a: u32,
+    pub b: u32,
+    pub c: u32,
+    pub d: u32,
+}
+
+// The i-th record, from 0.
+pub fn get_record(area: &[u8], i: usize) -> Record
+    requires { ⌜ (length (now area) ≡ areaLength) × (i < mostRecords) ⌝ }
+    ensures { λ r. ⌜ r ≡ recordIn (recordAt (now (area .entry)) i) ⌝ }
+{
+    let at = HEADER_LENGTH + RECORD_LENGTH * i;
+    Record {
+        kind: area[at],
+        flag: area[at + 1],
+        spare: little::get_u16(area, at + 2),
+        a: little::get_u32(area, at + 4),
+        b: little::get_u32(area, at + 8),
+        c: little::get_u32(area, at + 12),
+        d: little::get_u32(area, at + 16),
+    }
+}
+
+// Writes the i-th record, from 0.
+pub fn put_record(area: &mut [u8], i: usize, kind: u8, flag: u8, a: u32, b: u32, c: u32, d: u32)
+    requires { ⌜ (length (now area) ≡ areaLength) × (i < mostRecords) ⌝ }
+    ensures { λ _. ⌜ now (area .exit) ≡ written (headerLength + recordLength * i) (recordBytes kind flag a b c d) (now (area .entry)) ⌝ }
+{
+    let at = HEADER_LENGTH + RECORD_LENGTH * i;
+    put_marks(area, at, kind, flag);
+    little::put_u32(area, at + 4, a);
+    little::put_u32(area, at + 8, b);
+    little::put_u32(area, at + 12, c);
+    little::put_u32(area, at + 16, d);
+}
+
+// Writes zeros over the i-th record, from 0.
+pub fn clear_record(area: &mut [u8], i: usize)
+    requires { ⌜ (length (now area) ≡ areaLength) × (i < mostRecords) ⌝ }
+    ensures { λ _. ⌜ now (area .exit) ≡ written (headerLength + recordLength * i) (zeros recordLength) (now (area .entry)) ⌝ }
+{
+    put_record(area, i, 0, 0, 0, 0, 0, 0);
+}
+
+// The plan: bytes 0, 1 and 4 to 9.
+pub fn get_plan(area: &[u8]) -> Plan
+    requires { ⌜ length (now area) ≡ areaLength ⌝ }
+    ensures { λ r. ⌜ r ≡ planIn (now (area .entry)) ⌝ }
+{
+    Plan {
+        kind: area[0] as u32,
+        option: area[1] as u32,
+        a: little::get_u32(area, 4),
+        b: little::get_u16(area, 8) as u32,
+    }
+}
+
+// The count of standing records: bytes 2 and 3.
+pub fn get_count(area: &[u8]) -> usize
+    requires { ⌜ length (now area) ≡ areaLength ⌝ }
+    ensures { λ r. ⌜ (r ≡ countIn (now (area .entry))) × (r < 65536) ⌝ }
+{
+    little::get_u16(area, 2) as usize
+}
+
+// Writes bytes 0 to 15 of a stream that is opened: the plan, and no standing record.
+pub fn put_plan(area: &mut [u8], plan: Plan)
+    requires { ⌜ (length (now area) ≡ areaLength) × (plan .kind < 256) × (plan .option < 256) × (plan .b < 65536) ⌝ }
+    ensures { λ _. ⌜ now (area .exit) ≡ written 0 (planBytes plan 0) (now (area .entry)) ⌝ }
+{
+    put_marks(area, 0, plan.kind as u8, plan.option as u8);
+    little::put_u32(area, 4, plan.a);
+    little::put_u16(area, 8, plan.b as u16);
+    little::put_u16(area, 10, 0);
+    little::put_u32(area, 12, 0);
+}
+
+// Writes the count of standing records.
+pub fn put_count(area: &mut [u8], count: usize)
+    requires { ⌜ (length (now area) ≡ areaLength) × (count < 65536) ⌝ }
+    ensures { λ _. ⌜ now (area .exit) ≡ written 2 (bytes 2 count) (now (area .entry)) ⌝ }
+{
+    little::put_u16(area, 2, count as u16);
+}
+
+// Writes the figures: bytes 16 to 47.
+pub fn put_figures(area: &mut [u8], figures: Figures)
+    requires { ⌜ length (now area) ≡ areaLength ⌝ }
+    ensures { λ _. ⌜ now (area .exit) ≡ written 16 (figureBytes figures) (now (area .entry)) ⌝ }
+{
+    let credit = figures.credit;
+    let level = figures.level;
+    let continuous = figures.continuous;
+    put_level(area, credit, level);
+    put_continuous(area, continuous);
+    little::put_u64(area, 32, figures.accepted);
+    little::put_u64(area, 40, 0);
+}
+
+// Do bytes 10 to 47, the plan's unused six and the figures, hold these figures?
+pub fn has_figures(area: &[u8], figures: Figures) -> bool
+    requires { ⌜ length (now area) ≡ areaLength ⌝ }
+    ensures { λ r. ⌜ Decides r (part 10 38 (now (area .entry)) ≡ zeros 6 ++ figureBytes figures) ⌝ }
+{
+    let credit = figures.credit;
+    let level = figures.level;
+    let continuous = figures.continuous;
+    if little::get_u16(area, 10) != 0 {
+        return false;
+    }
+    if little::get_u32(area, 12) != 0 {
+        return false;
+    }
+    if !has_level(area, credit, level) {
+        return false;
+    }
+    if !has_continuous(area, continuous) {
+        return false;
+    }
+    if little::get_u64(area, 32) != figures.accepted {
+        return false;
+    }
+    if little::get_u64(area, 40) != 0 {
+        return false;
+    }
+    true
+}
+
+// Is every byte zero from an index on? The loop runs to its end whatever it finds: it is then compiled to steps of many bytes.
+pub fn is_zero_from(area: &[u8], from: usize) -> bool
+    requires { ⌜ from ≤ length (now area) ⌝ }
+    ensures { λ r. ⌜ Decides r (drop from (now (area .entry)) ≡ zeros (length (now (area .entry)) - from)) ⌝ }
+{
+    let mut clean = true;
+    let mut i = from;
+    while i < area.len() {
+        if area[i] != 0 {
+            clean = false;
+        }
+        i += 1;
+    }
+    clean
+}
+
+// Writes two bytes, and two zeros behind them: how a plan and a record start.
+fn put_marks(area: &mut [u8], at: usize, first: u8, second: u8)
+    requires { ⌜ at + 4 ≤ length (now area) ⌝ }
+    ensures { λ _. ⌜ now (area .exit) ≡ written at (first ∷ second ∷ 0 ∷ 0 ∷ []) (now (area .entry)) ⌝ }
+{
+    area[at] = first;
+    area[at + 1] = second;
+    little::put_u16(area, at + 2, 0);
+}
+
+// Writes bytes 16 to 23.
+fn put_level(area: &mut [u8], credit: Credit, state: LevelState)
+    requires { ⌜ length (now area) ≡ areaLength ⌝ }
+    ensures { λ _. ⌜ now (area .exit) ≡ written 16 (levelBytes (credit .0) state) (now (area .entry)) ⌝ }
+{
+    little::put_u32(area, 16, credit.0);
+    area[20] = state.level;
+    area[21] = state.row;
+    area[22] = state.judged;
+    area[23] = state.window;
+}
+
+// Writes bytes 24 to 31.
+fn put_continuous(area: &mut [u8], state: Continuous)
+    requires { ⌜ length (now area) ≡ areaLength ⌝ }
+    ensures { λ _. ⌜ now (area .exit) ≡ written 24 (continuousBytes state) (now (area .entry)) ⌝ }
+{
+    little::put_u32(area, 24, state.count);
+    area[28] = state.phase;
+    area[29] = 0;
+    little::put_u16(area, 30, state.tail);
+}
+
+// Do bytes 16 to 23 hold this credit and this level?
+fn has_level(area: &[u8], credit: Credit, state: LevelState) -> bool
+    requires { ⌜ length (now area) ≡ areaLength ⌝ }
+    ensures { λ r. ⌜ Decides r (part 16 8 (now (area .entry)) ≡ levelBytes (credit .0) state) ⌝ }
+{
+    if little::get_u32(area, 16) != credit.0 {
+        return false;
+    }
+    if area[20] != state.level {
+        return false;
+    }
+    if area[21] != state.row {
+        return false;
+    }
+    if area[22] != state.judged {
+        return false;
+    }
+    if area[23] != state.window {
+        return false;
+    }
+    true
+}
+
+// Do bytes 24 to 31 hold this state?
+fn has_continuous(area: &[u8], state: Continuous) -> bool
+    requires { ⌜ length (now area) ≡ areaLength ⌝ }
+    ensures { λ r. ⌜ Decides r (part 24 8 (now (area .entry)) ≡ continuousBytes state) ⌝ }
+{
+    if little::get_u32(area, 24) != state.count {
+        return false;
+    }
+    if area[28] != state.phase {
+        return false;
+    }
+    if area[29] != 0 {
+        return false;
+    }
+    if little::get_u16(area, 30) != state.tail {
+        return false;
+    }
+    true
+}

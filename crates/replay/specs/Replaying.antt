@@ -1,0 +1,88 @@
+-- Reading an area record after record: what each record has to be, and what the replay then knows. Assumes nothing.
+use Prim.Native.Nat.{ℕ, zero, suc, _*_}
+use mathlib.Core.Bool.{Bool, true, false, cond, _&&_, _||_}
+use mathlib.Core.List.{List}
+use mathlib.Core.Path.{_≡_}
+use lib.Dec.{eqb}
+use lib.ListN.{length}
+use Rattle.little.specs.Little.{part}
+use Rattle.model.specs.declared.Plan.{Plan}
+use Rattle.model.specs.declared.Entry.{Entry}
+use Rattle.model.specs.declared.Entry.the-variants.{Lot, Run, Block, Stop}
+use Rattle.model.specs.declared.Figures.{Figures}
+use Rattle.model.specs.Sizes.{recordLength, headerLength, mostRecords}
+use Rattle.model.specs.Stations.{unopened, opened}
+use Rattle.model.specs.Figuring.{sampleAsked, started, stepped, figuresOf}
+use Rattle.model.specs.Area.{entriesIn, Reading, unsound, holds}
+use Rattle.rules.specs.Replayed.{accepts}
+use Rattle.records.specs.declared.Record.{Record}
+use Rattle.records.specs.Records.{recordIn, recordAt}
+use Rattle.replay.specs.declared.Entered.{Entered}
+use Rattle.replay.specs.declared.Standing.{Standing}
+
+-- the entry in a record, after figures f: a lot's sample is the one that was asked
+unfoldable pub entryOf : Plan → Figures → Record → Entry
+entryOf p f r =
+    cond (eqb (r .kind) 1) (Lot (r .a) (r .b) (sampleAsked p f (r .b)) (r .c) (r .d))
+    (cond (eqb (r .kind) 2) (Run (r .a) (r .flag))
+    (cond (eqb (r .kind) 3) (Block (r .a) (r .flag)) (Stop (r .flag) (r .a))))
+
+-- a record of a kind that exists, with zeros wherever its kind has nothing to say
+unfoldable pub wellFormed : Record → Bool
+wellFormed r =
+    eqb (r .spare) 0
+    && cond (eqb (r .kind) 1) (eqb (r .flag) 0)
+    ((eqb (r .kind) 2 || eqb (r .kind) 3 || eqb (r .kind) 4) && (eqb (r .b) 0 && eqb (r .c) 0 && eqb (r .d) 0))
+
+-- a record without a second, third or fourth number
+pub record NoMore (r : Record) : Type 0 where
+  pub noSecond : r .b ≡ 0
+  pub noThird : r .c ≡ 0
+  pub noFourth : r .d ≡ 0
+
+-- a record that some accepted call could have left as the i-th, after figures f
+unfoldable pub stands : Plan → Figures → ℕ → Record → Bool
+stands p f i r = wellFormed r && accepts p f i (entryOf p f r)
+
+-- what entering a record gives: whether it stands, and the figures after it
+unfoldable pub entered : Plan → Figures → ℕ → Record → Entered
+entered p f i r = record { sound = stands p f i r; figures = cond (stands p f i r) (stepped p (entryOf p f r) f) f }
+
+-- a record that stands brings other figures; one that cannot leaves them
+unfoldable pub soundAt : Figures → Entered
+soundAt f = record { sound = true; figures = f }
+
+unfoldable pub unsoundAt : Figures → Entered
+unsoundAt f = record { sound = false; figures = f }
+
+-- the records of an area
+unfoldable pub recordsIn : List ℕ → List ℕ
+recordsIn area = part headerLength (recordLength * mostRecords) area
+
+-- the figures after an area's first records
+unfoldable pub figuresTo : Plan → List ℕ → ℕ → Figures
+figuresTo p area i = figuresOf p (entriesIn p (recordsIn area) i)
+
+-- each of an area's first records stands
+unfoldable pub standTo : Plan → List ℕ → ℕ → Bool
+standTo p area zero = true
+standTo p area (suc i) = standTo p area i && stands p (figuresTo p area i) i (recordIn (recordAt area i))
+
+-- what a replay of an area's first records gives: whether each stands, and if so the figures after them
+pub record Replayed (p : Plan) (area : List ℕ) (count : ℕ) (r : Entered) : Type 0 where
+  pub allStand : r .sound ≡ standTo p area count
+  pub figuresAfter : r .sound ≡ true → r .figures ≡ figuresTo p area count
+
+-- an area that is unsound or unopened has no plan and no figures to tell of
+abbrev pub noPlan : Plan
+noPlan = record { kind = 0; option = 0; a = 0; b = 0 }
+
+unfoldable pub nothingStands : Bool → Standing
+nothingStands sound = record { sound = sound; opened = false; plan = noPlan; count = 0; figures = started noPlan }
+
+-- what a reading says
+unfoldable pub standingOf : Reading → Standing
+standingOf unsound = nothingStands false
+standingOf (holds unopened) = nothingStands true
+standingOf (holds (opened p es)) =
+    record { sound = true; opened = true; plan = p; count = length es; figures = figuresOf p es }

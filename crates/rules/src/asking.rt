@@ -1,0 +1,48 @@
+// What a lot asks for and what it gets, and what a block gives: paper 01, "Credit lots", "Level lots" and "Continuous".
+ghost use mathlib.Core.Path.{_≡_};
+ghost use mathlib.Core.Bool.{false};
+ghost use Prim.Native.Nat.{_≤_};
+ghost use lib.Dec.{T, eqb};
+ghost use Rattle.plans.specs.Continuous.{afterBlock};
+ghost use Rattle.model.specs.Stations.{validPlan, isContinuous};
+ghost use Rattle.model.specs.Figuring.{sampleAsked, verdictOn};
+use crate::plan;
+use model::Figures;
+use model::Plan;
+use plans::LotSize;
+use plans::continuous::Block;
+use plans::tables;
+use plans::verdict;
+
+// The sample that a lot asks for.
+pub fn sample(plan: Plan, figures: Figures, size: u32) -> u32
+    requires { ⌜ T (validPlan plan) × (isContinuous plan ≡ false) × (figures .credit .0 ≤ 128000000) × (1 ≤ size) × (size ≤ 1000000) ⌝ }
+    ensures { λ r. ⌜ (r ≡ sampleAsked plan figures size) × (r ≤ size) ⌝ }
+{
+    if plan.kind == plan::CREDIT {
+        let credit = figures.credit;
+        return credit.sample(LotSize(size), plan.a).0;
+    }
+    let level = figures.level;
+    tables::sample_size(plan.a, level.level, LotSize(size)).0
+}
+
+// The verdict on a lot with so many wrong in its sample.
+pub fn verdict(plan: Plan, figures: Figures, wrong: u32) -> u32
+    ensures { λ r. ⌜ r ≡ verdictOn plan figures wrong ⌝ }
+{
+    if plan.kind == plan::CREDIT {
+        let credit = figures.credit;
+        return credit.verdict(plan.option == 1, wrong);
+    }
+    verdict::of_level_lot(wrong)
+}
+
+// What a block gives.
+pub fn block(plan: Plan, figures: Figures, heard: u32, wrong: u32) -> Block
+    requires { ⌜ (1 ≤ heard) × (heard ≤ plan .b) × (plan .b ≤ 200) ⌝ }
+    ensures { λ r. ⌜ r ≡ afterBlock (plan .b) heard (eqb wrong 1) (figures .continuous) ⌝ }
+{
+    let continuous = figures.continuous;
+    continuous.block(plan.b, heard, wrong == 1)
+}

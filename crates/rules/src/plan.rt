@@ -1,0 +1,97 @@
+// Plans: paper 01, "Calls", Open.
+ghost use mathlib.Core.Path.{_≡_};
+ghost use Rattle.model.specs.Stations.{validPlan, within as isWithin};
+ghost use mathlib.Core.Bool.{_&&_};
+ghost use lib.Dec.{eqb, leb};
+ghost use Rattle.model.specs.Figuring.{started as startedFigures};
+ghost use Rattle.rules.specs.Starting.{withLevel};
+use model::Figures;
+use model::Plan;
+use plans::continuous::Continuous;
+use plans::credit::Credit;
+use plans::level::LevelState;
+
+pub const CREDIT: u32 = 1;
+
+pub const LEVEL: u32 = 2;
+
+pub const CONTINUOUS: u32 = 3;
+
+// Whether a stream may be opened so: what refusal 5 leaves.
+pub fn is_valid(plan: Plan) -> bool
+    ensures { λ r. ⌜ r ≡ validPlan plan ⌝ }
+{
+    let kind = plan.kind;
+    if kind == CREDIT {
+        return is_for_lots(plan, 500000);
+    }
+    if kind == LEVEL {
+        return is_for_lots(plan, 7);
+    }
+    if kind == CONTINUOUS {
+        return is_for_blocks(plan);
+    }
+    false
+}
+
+// The figures of a stream that has just been opened.
+pub fn started(plan: Plan) -> Figures
+    ensures { λ r. ⌜ r ≡ startedFigures plan ⌝ }
+{
+    if plan.kind == LEVEL {
+        return with_level(LevelState::start());
+    }
+    with_level(LevelState {
+        level: 0,
+        row: 0,
+        judged: 0,
+        window: 0,
+    })
+}
+
+// Whether n is from low to high.
+pub fn within(low: u32, high: u32, n: u32) -> bool
+    ensures { λ r. ⌜ r ≡ isWithin low high n ⌝ }
+{
+    if n < low {
+        return false;
+    }
+    n <= high
+}
+
+fn is_for_lots(plan: Plan, most: u32) -> bool
+    ensures { λ r. ⌜ r ≡ isWithin 1 most (plan .a) && eqb (plan .b) 0 && leb (plan .option) 1 ⌝ }
+{
+    if !within(1, most, plan.a) {
+        return false;
+    }
+    if plan.b != 0 {
+        return false;
+    }
+    plan.option <= 1
+}
+
+fn is_for_blocks(plan: Plan) -> bool
+    ensures { λ r. ⌜ r ≡ isWithin 1 10000 (plan .a) && isWithin 2 200 (plan .b) && eqb (plan .option) 0 ⌝ }
+{
+    if !within(1, 10000, plan.a) {
+        return false;
+    }
+    if !within(2, 200, plan.b) {
+        return false;
+    }
+    plan.option == 0
+}
+
+fn with_level(level: LevelState) -> Figures
+    ensures { λ r. ⌜ r ≡ withLevel level ⌝ }
+{
+    Figures {
+        credit: Credit(0),
+        level,
+        continuous: Continuous::screen(0),
+        accepted: 0,
+        labelled: false,
+        label: 0,
+    }
+}

@@ -1,0 +1,296 @@
+// Which refusal a call gets on an opened stream: paper 01, "Calls", each list of refusals in the paper's order.
+ghost use mathlib.Core.Path.{_≡_};
+ghost use mathlib.Core.Bool.{not, _&&_, _||_};
+ghost use Prim.Native.Nat.{ℕ, _+_, _-_, _≤_, _<_};
+ghost use Rattle.plans.specs.Verdicts.{lotHeard, lotWithheld};
+ghost use lib.Dec.{T, eqb};
+ghost use Rattle.model.specs.declared.Entry.the-variants.{Lot, Run, Block, Stop};
+ghost use Rattle.model.specs.Stations.{validPlan, within};
+ghost use Rattle.model.specs.Figuring.{sampleAsked};
+ghost use Rattle.model.specs.Calls.{
+  firstOf,
+  entryRefusals,
+  askRefusals,
+  isDiscontinued,
+  sameLabel,
+  sizeInRange,
+  countsAgree,
+};
+ghost use Rattle.model.proofs.FigureBounds.{FiguresWithin};
+ghost use Rattle.rules.specs.Replayed.{accepts};
+use crate::asking;
+use crate::plan;
+use model::Entry;
+use model::Figures;
+use model::Plan;
+use plans::continuous;
+use plans::level;
+use plans::verdict;
+
+// So many records an area holds.
+pub const MOST_RECORDS: usize = 128;
+
+// The refusal of an entry.
+pub fn entry(plan: Plan, figures: Figures, count: usize, entry: Entry) -> u32
+    requires { ⌜ T (validPlan plan) × FiguresWithin count figures × (count ≤ 128) ⌝ }
+    ensures { λ r. ⌜ r ≡ firstOf (entryRefusals plan figures count entry) ⌝ }
+{
+    match entry {
+        Entry::Lot {
+            label,
+            size,
+            sample,
+            wrong,
+            wrong_in_all,
+        } => lot(
+            plan,
+            figures,
+            count,
+            label,
+            size,
+            sample,
+            wrong,
+            wrong_in_all,
+        ),
+        Entry::Run { right, wrong } => run(plan, figures, count, right, wrong),
+        Entry::Block { heard, wrong } => block(plan, figures, count, heard, wrong),
+        Entry::Stop { why, days } => stop(plan, figures, count, why, days),
+    }
+}
+
+// The refusal of a lot.
+pub fn lot(
+    plan: Plan,
+    figures: Figures,
+    count: usize,
+    label: u32,
+    size: u32,
+    sample: u32,
+    wrong: u32,
+    all: u32,
+) -> u32
+    requires { ⌜ T (validPlan plan) × FiguresWithin count figures × (count ≤ 128) ⌝ }
+    ensures { λ r. ⌜ r ≡ firstOf (entryRefusals plan figures count (Lot label size sample wrong all)) ⌝ }
+{
+    if plan.kind == plan::CONTINUOUS {
+        return 7;
+    }
+    if is_discontinued(figures) {
+        return 8;
+    }
+    if MOST_RECORDS <= count {
+        return 9;
+    }
+    if is_same_label(figures, label) {
+        return 10;
+    }
+    if is_size_out(plan, size) {
+        return 11;
+    }
+    if sample != asking::sample(plan, figures, size) {
+        return 12;
+    }
+    if do_counts_agree(
+        asking::verdict(plan, figures, wrong),
+        size,
+        sample,
+        wrong,
+        all,
+    ) {
+        return 0;
+    }
+    13
+}
+
+// Whether a lot could have been accepted with the sample that was asked. One with nothing wrong needs no sample worked out.
+pub fn fits_lot(plan: Plan, figures: Figures, label: u32, size: u32, wrong: u32, all: u32) -> bool
+    requires { ⌜ T (validPlan plan) × FiguresWithin 127 figures ⌝ }
+    ensures { λ r. ⌜ ((count : ℕ) → count < 128 → r ≡ accepts plan figures count (Lot label size (sampleAsked plan figures size) wrong all)) ⌝ }
+{
+    if plan.kind == plan::CONTINUOUS {
+        return false;
+    }
+    if is_discontinued(figures) {
+        return false;
+    }
+    if is_same_label(figures, label) {
+        return false;
+    }
+    if is_size_out(plan, size) {
+        return false;
+    }
+    if wrong == 0 {
+        return all == 0;
+    }
+    let sample = asking::sample(plan, figures, size);
+    do_counts_agree(
+        asking::verdict(plan, figures, wrong),
+        size,
+        sample,
+        wrong,
+        all,
+    )
+}
+
+// The refusal of a run.
+pub fn run(plan: Plan, figures: Figures, count: usize, right: u32, wrong: u32) -> u32
+    requires { ⌜ FiguresWithin count figures ⌝ }
+    ensures { λ r. ⌜ r ≡ firstOf (entryRefusals plan figures count (Run right wrong)) ⌝ }
+{
+    if plan.kind != plan::CONTINUOUS {
+        return 7;
+    }
+    if MOST_RECORDS <= count {
+        return 9;
+    }
+    if 10000 < right {
+        return 15;
+    }
+    if 1 < wrong {
+        return 15;
+    }
+    if right + wrong == 0 {
+        return 15;
+    }
+    let state = figures.continuous;
+    if state.phase == continuous::SAMPLING {
+        return 14;
+    }
+    if plan.a < state.count + right + wrong {
+        return 14;
+    }
+    0
+}
+
+// The refusal of a block.
+pub fn block(plan: Plan, figures: Figures, count: usize, heard: u32, wrong: u32) -> u32
+    ensures { λ r. ⌜ r ≡ firstOf (entryRefusals plan figures count (Block heard wrong)) ⌝ }
+{
+    if plan.kind != plan::CONTINUOUS {
+        return 7;
+    }
+    if MOST_RECORDS <= count {
+        return 9;
+    }
+    if heard < 1 {
+        return 15;
+    }
+    if plan.b < heard {
+        return 15;
+    }
+    if 1 < wrong {
+        return 15;
+    }
+    let state = figures.continuous;
+    if state.phase != continuous::SAMPLING {
+        return 14;
+    }
+    0
+}
+
+// The refusal of a stop.
+pub fn stop(plan: Plan, figures: Figures, count: usize, why: u32, days: u32) -> u32
+    ensures { λ r. ⌜ r ≡ firstOf (entryRefusals plan figures count (Stop why days)) ⌝ }
+{
+    if is_discontinued(figures) {
+        return 8;
+    }
+    if MOST_RECORDS <= count {
+        return 9;
+    }
+    if why < 1 {
+        return 15;
+    }
+    if 2 < why {
+        return 15;
+    }
+    if 255 < days {
+        return 15;
+    }
+    if why != 2 {
+        return 0;
+    }
+    if 0 < days {
+        return 15;
+    }
+    0
+}
+
+// The refusal of an ask.
+pub fn ask(plan: Plan, figures: Figures, size: u32) -> u32
+    ensures { λ r. ⌜ r ≡ firstOf (askRefusals plan figures size) ⌝ }
+{
+    if plan.kind == plan::CONTINUOUS {
+        return 7;
+    }
+    if is_discontinued(figures) {
+        return 8;
+    }
+    if is_size_out(plan, size) {
+        return 11;
+    }
+    0
+}
+
+fn is_discontinued(figures: Figures) -> bool
+    ensures { λ r. ⌜ r ≡ isDiscontinued figures ⌝ }
+{
+    let state = figures.level;
+    state.level == level::DISCONTINUED
+}
+
+fn is_same_label(figures: Figures, label: u32) -> bool
+    ensures { λ r. ⌜ r ≡ sameLabel figures label ⌝ }
+{
+    if figures.labelled {
+        return label == figures.label;
+    }
+    false
+}
+
+fn is_size_out(plan: Plan, size: u32) -> bool
+    ensures { λ r. ⌜ r ≡ not (sizeInRange plan size) ⌝ }
+{
+    if plan.kind == plan::LEVEL {
+        return !plan::within(2, 1000000, size);
+    }
+    !plan::within(1, 1000000, size)
+}
+
+// Whether the counts of a lot agree: what refusal 13 leaves.
+fn do_counts_agree(verdict: u32, size: u32, sample: u32, wrong: u32, all: u32) -> bool
+    requires { ⌜ (sample ≤ size) × (size ≤ 1000000) ⌝ }
+    ensures { λ r. ⌜ r ≡ countsAgree verdict size sample wrong all ⌝ }
+{
+    if sample < wrong {
+        return false;
+    }
+    if is_none_missed(wrong, all) {
+        return is_by_verdict(verdict, size, sample, wrong, all);
+    }
+    false
+}
+
+// Without a wrong one in the sample there is none in all that was heard.
+fn is_none_missed(wrong: u32, all: u32) -> bool
+    ensures { λ r. ⌜ r ≡ not (eqb wrong 0) || eqb all 0 ⌝ }
+{
+    if wrong == 0 {
+        return all == 0;
+    }
+    true
+}
+
+// The range of all that was found wrong, by the verdict.
+fn is_by_verdict(verdict: u32, size: u32, sample: u32, wrong: u32, all: u32) -> bool
+    requires { ⌜ (wrong ≤ sample) × (sample ≤ size) × (size ≤ 1000000) ⌝ }
+    ensures { λ r. ⌜ r ≡ (not (eqb verdict lotHeard) || within wrong (size - sample + wrong) all) && (not (eqb verdict lotWithheld) || eqb all wrong) ⌝ }
+{
+    if verdict == verdict::HEARD {
+        return plan::within(wrong, size - sample + wrong, all);
+    }
+    if verdict == verdict::WITHHELD {
+        return all == wrong;
+    }
+    true
+}
