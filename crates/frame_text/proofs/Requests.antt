@@ -14,15 +14,15 @@ use Rattle.frame_text.specs.Program.{onFrame, onLine, requestOf, request
 use Rattle.frame_text.specs.Claims.{MakesCalls}
 use Rattle.frame_text.proofs.Small.{Small, frame-small}
 
-words-before : (f : Frame) (rs : List Request) → Small f → T (areWords rs) → T (areWords (requestOf f ++ rs))
+pub words-before : (limit : ℕ) (f : Frame) (rs : List Request) → Small limit f → T (areWords rs) → T (areWords (requestOf f ++ rs))
 unfolding requestOf areWords
-words-before (Made stream c) rs small h = both (allWords (arguments c)) (areWords rs) (small .words) h
-words-before Bad rs small h = h
+words-before limit (Made stream c) rs small h = both (allWords (arguments c)) (areWords rs) (small .1) h
+words-before limit Bad rs small h = h
 
 words : (ls : List (List ℕ)) → T (areWords (requestsIn ls))
 unfolding requestsIn areWords
 words [] = tt
-words (line ∷ rest) = words-before (frameOf line) (requestsIn rest) (frame-small line) (words rest)
+words (line ∷ rest) = words-before 256 (frameOf line) (requestsIn rest) (frame-small line) (words rest)
 
 same-store : (store : List ℕ) (ls : List (List ℕ)) → storeFrom store ls ≡ storeAfter store (requestsIn ls)
 unfolding requestsIn storeFrom storeAfter onLine onFrame requestOf

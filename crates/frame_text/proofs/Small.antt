@@ -1,4 +1,4 @@
--- A frame's stream is a byte, and its call's arguments are 32-bit numbers. Assumes nothing.
+-- A frame that is made of small numbers has a small stream, and its call's arguments are 32-bit numbers. Assumes nothing.
 use mathlib.Core.Path.{_≡_, refl, subst}
 use mathlib.Core.Bool.{Bool, true, false, cond, _&&_}
 use mathlib.Core.List.{List, [], _∷_}
@@ -18,29 +18,30 @@ use Rattle.frame_text.specs.declared.Frame.{Frame}
 use Rattle.frame_text.specs.declared.Frame.the-variants.{Made, Bad}
 use Rattle.frame_text.specs.Digits.{allDigits, hexValue}
 use Rattle.frame_text.specs.Frames.{frameLength, callNumber, streamIn, argument, allZero, madeIf, numbered, frameOf}
-use Rattle.frame_text.specs.Claims.{SmallNumbers, FramesAreSmall}
+use Rattle.frame_text.specs.Claims.{FramesAreSmall}
 use Rattle.frame_text.proofs.Laws.{value-below, digits-part}
 
-abbrev pub Small : Frame → Type 0
-Small (Made stream c) = SmallNumbers stream c
-Small Bad = Unit {0}
+-- the stream is below a limit, and the arguments are 32-bit numbers
+abbrev pub Small : ℕ → Frame → Type 0
+Small limit (Made stream c) = (stream < limit) × T (allWords (arguments c))
+Small limit Bad = Unit {0}
 
-either-small : (t : Bool) (x y : Frame) → (t ≡ true → Small x) → Small y → Small (cond t x y)
-either-small true x y hx hy = hx refl
-either-small false x y hx hy = hy
+either-small : (limit : ℕ) (t : Bool) (x y : Frame) → (t ≡ true → Small limit x) → Small limit y → Small limit (cond t x y)
+either-small limit true x y hx hy = hx refl
+either-small limit false x y hx hy = hy
 
-made-small : (t : Bool) (stream : ℕ) (c : Call) → SmallNumbers stream c → Small (madeIf t stream c)
+made-small : (limit : ℕ) (t : Bool) (stream : ℕ) (c : Call) → (stream < limit) × T (allWords (arguments c)) → Small limit (madeIf t stream c)
 unfolding madeIf
-made-small true stream c h = h
-made-small false stream c h = tt
+made-small limit true stream c h = h
+made-small limit false stream c h = tt
 
 word-and : (n : ℕ) (ns : List ℕ) → n < 2 ^ 32 → T (allWords ns) → T (allWords (n ∷ ns))
 unfolding allWords
 word-and n ns h t = both (ltb n (2 ^ 32)) (allWords ns) (lt→ltb n (2 ^ 32) h) t
 
-module _ (stream a b c d e : ℕ) (small : stream < 256) (ha : a < 2 ^ 32) (hb : b < 2 ^ 32) (hc : c < 2 ^ 32) (hd : d < 2 ^ 32) (he : e < 2 ^ 32) where
-  made : (call : Call) → T (allWords (arguments call)) → SmallNumbers stream call
-  made call t = record { byteStream = small; words = t }
+module _ (limit stream a b c d e : ℕ) (small : stream < limit) (ha : a < 2 ^ 32) (hb : b < 2 ^ 32) (hc : c < 2 ^ 32) (hd : d < 2 ^ 32) (he : e < 2 ^ 32) where
+  made : (call : Call) → T (allWords (arguments call)) → (stream < limit) × T (allWords (arguments call))
+  made call t = (small, t)
 
   none : T (allWords [])
   unfolding allWords
@@ -52,34 +53,34 @@ module _ (stream a b c d e : ℕ) (small : stream < 256) (ha : a < 2 ^ 32) (hb :
   firstTwo : T (allWords (a ∷ b ∷ []))
   firstTwo = word-and a _ ha (word-and b _ hb none)
 
-  numbered-small : (number : ℕ) → Small (numbered number stream a b c d e)
+  pub numbered-small : (number : ℕ) → Small limit (numbered number stream a b c d e)
   unfolding numbered arguments entryArguments
   numbered-small number =
-      either-small (eqb number 1) _ _
-      (λ h. made-small (allZero (e ∷ [])) stream (Open (record { kind = a; option = b; a = c; b = d }))
+      either-small limit (eqb number 1) _ _
+      (λ h. made-small limit (allZero (e ∷ [])) stream (Open (record { kind = a; option = b; a = c; b = d }))
       (made (Open (record { kind = a; option = b; a = c; b = d })) (word-and a _ ha (word-and b _ hb (word-and c _ hc (word-and d _ hd none))))))
-      (either-small (eqb number 2) _ _
+      (either-small limit (eqb number 2) _ _
       (λ h. made (Enter (Lot a b c d e)) (word-and a _ ha (word-and b _ hb (word-and c _ hc (word-and d _ hd (word-and e _ he none))))))
-      (either-small (eqb number 3) _ _ (λ h. made-small (allZero (c ∷ d ∷ e ∷ [])) stream (Enter (Run a b)) (made (Enter (Run a b)) firstTwo))
-      (either-small (eqb number 4) _ _ (λ h. made-small (allZero (c ∷ d ∷ e ∷ [])) stream (Enter (Block a b)) (made (Enter (Block a b)) firstTwo))
-      (either-small (eqb number 5) _ _ (λ h. made-small (allZero (c ∷ d ∷ e ∷ [])) stream (Enter (Stop a b)) (made (Enter (Stop a b)) firstTwo))
-      (either-small (eqb number 6) _ _ (λ h. made-small (allZero (a ∷ b ∷ c ∷ d ∷ e ∷ [])) stream Back (made Back none))
-      (either-small (eqb number 7) _ _ (λ h. made-small (allZero (b ∷ c ∷ d ∷ e ∷ [])) stream (Ask a) (made (Ask a) first))
-      (either-small (eqb number 8) _ Bad (λ h. made-small (allZero (a ∷ b ∷ c ∷ d ∷ e ∷ [])) stream Read (made Read none)) tt)))))))
+      (either-small limit (eqb number 3) _ _ (λ h. made-small limit (allZero (c ∷ d ∷ e ∷ [])) stream (Enter (Run a b)) (made (Enter (Run a b)) firstTwo))
+      (either-small limit (eqb number 4) _ _ (λ h. made-small limit (allZero (c ∷ d ∷ e ∷ [])) stream (Enter (Block a b)) (made (Enter (Block a b)) firstTwo))
+      (either-small limit (eqb number 5) _ _ (λ h. made-small limit (allZero (c ∷ d ∷ e ∷ [])) stream (Enter (Stop a b)) (made (Enter (Stop a b)) firstTwo))
+      (either-small limit (eqb number 6) _ _ (λ h. made-small limit (allZero (a ∷ b ∷ c ∷ d ∷ e ∷ [])) stream Back (made Back none))
+      (either-small limit (eqb number 7) _ _ (λ h. made-small limit (allZero (b ∷ c ∷ d ∷ e ∷ [])) stream (Ask a) (made (Ask a) first))
+      (either-small limit (eqb number 8) _ Bad (λ h. made-small limit (allZero (a ∷ b ∷ c ∷ d ∷ e ∷ [])) stream Read (made Read none)) tt)))))))
 
 -- a part of a line of digits is a number of so many digits
 part-below : (at k : ℕ) (line : List ℕ) → T (allDigits line) → at + k ≤ length line → hexValue (part at k line) < 16 ^ k
 part-below at k line digits fits = rw (length-part at k line fits) at (value-below (part at k line) (digits-part at k line digits))
 
-pub frame-small : (line : List ℕ) → Small (frameOf line)
+pub frame-small : (line : List ℕ) → Small 256 (frameOf line)
 unfolding frameOf callNumber streamIn argument
 frame-small line =
-    either-small (eqb (length line) frameLength && allDigits line) _ Bad
+    either-small 256 (eqb (length line) frameLength && allDigits line) _ Bad
     (λ h.
     let parts : (eqb (length line) frameLength ≡ true) × (allDigits line ≡ true) = both-true (eqb (length line) frameLength) (allDigits line) h in
     let long : length line ≡ frameLength = eqb-true (length line) frameLength (parts .0) in
     let digits : T (allDigits line) = of-holds (allDigits line) (parts .1) in
-    numbered-small _ _ _ _ _ _
+    numbered-small 256 _ _ _ _ _ _
     (part-below 2 2 line digits (omega arith))
     (part-below 4 8 line digits (omega arith))
     (part-below 12 8 line digits (omega arith))
@@ -90,4 +91,6 @@ frame-small line =
     tt
 
 pub frames-are-small : FramesAreSmall
-frames-are-small line stream c e = subst Small e (frame-small line)
+frames-are-small line stream c e =
+    let small = subst (Small 256) e (frame-small line) in
+    record { byteStream = small .0; words = small .1 }

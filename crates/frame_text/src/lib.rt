@@ -69,7 +69,7 @@ pub fn write_bad(out: &mut [u8], at: usize)
 }
 
 // The frame of a call's number, a stream and five arguments.
-fn by_number(number: u32, stream: u32, a: u32, b: u32, c: u32, d: u32, e: u32) -> Frame
+pub fn by_number(number: u32, stream: u32, a: u32, b: u32, c: u32, d: u32, e: u32) -> Frame
     ensures { λ r. ⌜ r ≡ numbered number stream a b c d e ⌝ }
 {
     match number {

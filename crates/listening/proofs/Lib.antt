@@ -3,3 +3,4 @@ pub mod Rewriting
 pub mod OnReading
 pub mod Outcomes
 pub mod Lending
+pub mod ListLaws

@@ -1,6 +1,7 @@
 // The listening controller: paper 01's eight calls on a lent store of sixteen streams, and whole lists of calls. No call asks
 // anything of its caller: bad input gets a refusal number, and the store stays as it was.
 mod area;
+pub mod lists;
 
 ghost use mathlib.Core.Path.{_≡_};
 ghost use Rattle.model.specs.declared.Entry.the-variants.{Lot, Run, Block, Stop};

@@ -154,7 +154,7 @@ fresh-holds stream known =
     }
 
 -- one list of calls after another
-store-after : (store : List ℕ) (first second : List Request)
+pub store-after : (store : List ℕ) (first second : List Request)
     → storeAfter store (first ++ second) ≡ storeAfter (storeAfter store first) second
 unfolding storeAfter
 store-after store [] second = refl

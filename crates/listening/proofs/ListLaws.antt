@@ -1,0 +1,203 @@
+-- Lists of calls, one call after the other. Assumes nothing.
+use Prim.Native.Nat.{ℕ, zero, suc, _+_, _*_, _/_, _^_, _≤_, _<_}
+use mathlib.Core.Path.{_≡_, refl, sym, ap, _∙_}
+use mathlib.Core.Bool.{Bool, true, false}
+use mathlib.Core.List.{List, [], _∷_, _++_, append-nil}
+use native.Mathlib.Numerals.{add-one}
+use native.Mathlib.Omega.{arith}
+use lib.Dec.{T, leb}
+use borrow.Author.Tests.{leb-true, leb-false, eq-eqb, ne-eqb}
+use lib.ListN.{length, getD, length-append}
+use lib.Seq.{drop-length}
+use Rattle.little.specs.Little.{written}
+use Rattle.little.proofs.Laws.{written-next, written-nil}
+use Rattle.model.specs.declared.Answer.{Answer}
+use Rattle.model.specs.Store.{Request, StoreOutcome, onStore, storeAfter, answersTo}
+use Rattle.model.specs.declared.Call.{Call}
+use Rattle.model.specs.Stations.{arguments, allWords}
+use Rattle.model.specs.Claims.{areWords}
+use Rattle.model.proofs.Booleans.{both, both-of, both-true, never-both}
+use Rattle.model.proofs.EveryList.{store-after, every-list}
+use Rattle.frame_text.specs.declared.Frame.{Frame}
+use Rattle.frame_text.specs.declared.Frame.the-variants.{Made, Bad}
+use Rattle.frame_text.specs.Program.{requestOf}
+use Rattle.frame_text.proofs.Small.{numbered-small}
+use Rattle.frame_text.proofs.Requests.{words-before}
+use Rattle.listening.specs.Lists.{frameAt, isMade, allMade, requestsTo, numbersOf, callsIn, isList, Listed}
+
+answers-after : (store : List ℕ) (first second : List Request)
+    → answersTo store (first ++ second) ≡ answersTo store first ++ answersTo (storeAfter store first) second
+unfolding answersTo storeAfter
+answers-after store [] second = refl
+answers-after store (r ∷ first) second =
+    ap (λ (rest : List Answer). onStore store r .answer ∷ rest) (answers-after (onStore store r .store) first second)
+
+numbers-append : (first second : List Answer) → numbersOf (first ++ second) ≡ numbersOf first ++ numbersOf second
+unfolding numbersOf
+numbers-append [] second = refl
+numbers-append (a ∷ first) second =
+    ap (λ (rest : List ℕ). a .refusal ∷ a .first ∷ a .second ∷ a .third ∷ rest) (numbers-append first second)
+
+length-one : (store : List ℕ) (f : Frame) → isMade f ≡ true → length (numbersOf (answersTo store (requestOf f))) ≡ 4
+unfolding numbersOf answersTo requestOf isMade
+length-one store (Made stream c) e = refl
+length-one store Bad e = absurd (never-both false e refl)
+
+module _ (store ns : List ℕ) where
+  -- one call more
+  pub store-next : (i : ℕ)
+      → storeAfter (storeAfter store (requestsTo ns i)) (requestOf (frameAt ns i)) ≡ storeAfter store (requestsTo ns (i + 1))
+  unfolding requestsTo
+  store-next i = rw (add-one i) (sym (store-after store (requestsTo ns i) (requestOf (frameAt ns i))))
+
+  numbers-next : (i : ℕ) → numbersOf (answersTo store (requestsTo ns (suc i)))
+      ≡ numbersOf (answersTo store (requestsTo ns i))
+      ++ numbersOf (answersTo (storeAfter store (requestsTo ns i)) (requestOf (frameAt ns i)))
+  unfolding requestsTo
+  numbers-next i =
+      ap numbersOf (answers-after store (requestsTo ns i) (requestOf (frameAt ns i)))
+      ∙ numbers-append (answersTo store (requestsTo ns i)) (answersTo (storeAfter store (requestsTo ns i)) (requestOf (frameAt ns i)))
+
+  pub length-numbers : (i : ℕ) → allMade ns i ≡ true → length (numbersOf (answersTo store (requestsTo ns i))) ≡ 4 * i
+  unfolding allMade requestsTo answersTo numbersOf
+  length-numbers zero e = refl
+  length-numbers (suc i) e =
+      let parts = both-true (allMade ns i) (isMade (frameAt ns i)) e in
+      let before = length-numbers i (parts .0) in
+      let last = length-one (storeAfter store (requestsTo ns i)) (frameAt ns i) (parts .1) in
+      rw (numbers-next i, length-append) (omega arith)
+
+  -- the answers so far, and the next one behind them
+  pub answers-next : (i : ℕ) (answers : List ℕ) → allMade ns (suc i) ≡ true → 4 * i + 4 ≤ length answers
+      → written (4 * i) (numbersOf (answersTo (storeAfter store (requestsTo ns i)) (requestOf (frameAt ns i))))
+      (written 0 (numbersOf (answersTo store (requestsTo ns i))) answers)
+      ≡ written 0 (numbersOf (answersTo store (requestsTo ns (i + 1)))) answers
+  unfolding allMade
+  answers-next i answers e fits =
+      let parts = both-true (allMade ns i) (isMade (frameAt ns i)) e in
+      let before = length-numbers i (parts .0) in
+      let last = length-one (storeAfter store (requestsTo ns i)) (frameAt ns i) (parts .1) in
+      let next =
+      written-next 0 (numbersOf (answersTo store (requestsTo ns i)))
+      (numbersOf (answersTo (storeAfter store (requestsTo ns i)) (requestOf (frameAt ns i)))) answers (omega arith) in
+      let at : 0 + length (numbersOf (answersTo store (requestsTo ns i))) ≡ 4 * i = omega arith in
+      rw (add-one i, numbers-next i) (rw at at next)
+
+  -- all the answers fill the room
+  pub answers-all : (n : ℕ) (answers : List ℕ) → allMade ns n ≡ true → length answers ≡ 4 * n
+      → written 0 (numbersOf (answersTo store (requestsTo ns n))) answers ≡ numbersOf (answersTo store (requestsTo ns n))
+  unfolding written
+  answers-all n answers e room =
+      let full : 0 + length (numbersOf (answersTo store (requestsTo ns n))) ≡ length answers = omega (arith, length-numbers n e) in
+      rw (full, drop-length answers) (append-nil (numbersOf (answersTo store (requestsTo ns n))))
+
+-- calls that are made all exist up to any of them
+pub made-before : (ns : List ℕ) (i n : ℕ) → i ≤ n → allMade ns n ≡ true → allMade ns i ≡ true
+unfolding allMade
+made-before ns i zero h e = let none : i ≡ 0 = omega arith in rw none
+made-before ns i (suc n) h e = go (leb i n) refl (λ less. made-before ns i n less (both-true (allMade ns n) (isMade (frameAt ns n)) e .0))
+  where
+    go : (b : Bool) → leb i n ≡ b → (i ≤ n → allMade ns i ≡ true) → allMade ns i ≡ true
+    go true t earlier = earlier (leb-true i n t)
+    go false t earlier = let same : i ≡ suc n = omega (arith, leb-false i n t) in rw same e
+
+-- calls in 32-bit numbers have 32-bit arguments
+words-append : (first second : List Request) → T (areWords first) → T (areWords second) → T (areWords (first ++ second))
+unfolding areWords
+words-append [] second a b = b
+words-append (r ∷ first) second a b =
+    let parts = both-of (allWords (arguments (r .made))) (areWords first) a in
+    both (allWords (arguments (r .made))) (areWords (first ++ second)) (parts .0) (words-append first second (parts .1) b)
+
+pub requests-words : (ns : List ℕ) → ((k : ℕ) → getD ns k 0 < 2 ^ 32) → (i : ℕ) → T (areWords (requestsTo ns i))
+unfolding requestsTo areWords frameAt
+requests-words ns words zero = tt
+requests-words ns words (suc i) =
+    words-append (requestsTo ns i) (requestOf (frameAt ns i)) (requests-words ns words i)
+    (rw append-nil at
+    (words-before (2 ^ 32) (frameAt ns i) []
+    (numbered-small (2 ^ 32) _ _ _ _ _ _ (words (7 * i + 1)) (words (7 * i + 2)) (words (7 * i + 3)) (words (7 * i + 4))
+    (words (7 * i + 5)) (words (7 * i + 6)) _)
+    tt))
+
+-- a call that does not exist: not all do
+pub not-all : (ns : List ℕ) (i n : ℕ) → i < n → isMade (frameAt ns i) ≡ false → false ≡ allMade ns n
+unfolding allMade
+not-all ns i n h e = go (allMade ns n) refl
+  where
+    go : (b : Bool) → allMade ns n ≡ b → false ≡ allMade ns n
+    go true all =
+        absurd (never-both (isMade (frameAt ns i)) (both-true (allMade ns i) (isMade (frameAt ns i)) (made-before ns (suc i) n h all) .1) e)
+    go false all = sym all
+
+pub all-next : (ns : List ℕ) (i : ℕ) → allMade ns i ≡ true → isMade (frameAt ns i) ≡ true → allMade ns (i + 1) ≡ true
+unfolding allMade
+all-next ns i before e = rw (add-one i) (rw (before, e))
+
+-- one call of a list, made or passed over
+module _ (store ns answers : List ℕ) (i : ℕ) (f : Frame) (read : f ≡ frameAt ns i) where
+  pub one-made : (stream : ℕ) (c : Call) (r : Answer) (storeThen answersThen : List ℕ) → f ≡ Made stream c
+      → _≡_ {A = StoreOutcome} (record { answer = r; store = storeThen }) (onStore store (record { stream = stream; made = c }))
+      → answersThen ≡ written (4 * i) (numbersOf (r ∷ [])) answers
+      → (storeThen ≡ storeAfter store (requestOf (frameAt ns i)))
+      × (answersThen ≡ written (4 * i) (numbersOf (answersTo store (requestOf (frameAt ns i)))) answers)
+  unfolding requestOf storeAfter answersTo
+  one-made stream c r storeThen answersThen made outcome wrote =
+      rw (sym read ∙ made) (
+        ap (λ (o : StoreOutcome). o .store) outcome,
+        wrote ∙ ap (λ (o : StoreOutcome). written (4 * i) (numbersOf (o .answer ∷ [])) answers) outcome,
+      )
+
+  pub one-passed : f ≡ Bad → (store ≡ storeAfter store (requestOf (frameAt ns i)))
+      × (answers ≡ written (4 * i) (numbersOf (answersTo store (requestOf (frameAt ns i)))) answers)
+  unfolding requestOf storeAfter answersTo numbersOf
+  one-passed bad = rw (sym read ∙ bad) (refl, sym (written-nil (4 * i) answers))
+
+-- no call yet
+pub none-made : (store ns answers : List ℕ) → (store ≡ storeAfter store (requestsTo ns 0))
+    × (answers ≡ written 0 (numbersOf (answersTo store (requestsTo ns 0))) answers)
+unfolding requestsTo storeAfter answersTo numbersOf
+none-made store ns answers = (refl, sym (written-nil 0 answers))
+
+pub none-yet : (ns : List ℕ) → allMade ns 0 ≡ true
+unfolding allMade
+none-yet ns = refl
+
+-- a list that is none
+pub list-refused : (store ns answers : List ℕ) → isList ns answers ≡ false → Listed store ns answers false store answers
+list-refused store ns answers e =
+    record {
+      taken = sym e;
+      kept = λ z. (refl, refl);
+      storeMade = λ z. absurd (never-both false z refl);
+      answersMade = λ z. absurd (never-both false z refl);
+      demandThree = λ z. absurd (never-both false z refl);
+    }
+
+-- a list whose calls were made
+pub list-made : (store ns answers storeThen answersThen : List ℕ) → isList ns answers ≡ true → ((k : ℕ) → getD ns k 0 < 2 ^ 32)
+    → storeThen ≡ storeAfter store (requestsTo ns (callsIn ns))
+    → answersThen ≡ numbersOf (answersTo store (requestsTo ns (callsIn ns))) → Listed store ns answers true storeThen answersThen
+list-made store ns answers storeThen answersThen e words s a =
+    record {
+      taken = sym e;
+      kept = λ z. absurd (never-both true refl z);
+      storeMade = λ z. s;
+      answersMade = λ z. a;
+      demandThree = λ z f stream known.
+          every-list (requestsTo ns (callsIn ns)) (requests-words ns words (callsIn ns)) stream known;
+    }
+
+-- what keeps numbers from being a list of calls
+module _ (ns answers : List ℕ) where
+  pub odd-numbers : (length ns ≡ 7 * (length ns / 7) → ⊥) → isList ns answers ≡ false
+  unfolding isList callsIn
+  odd-numbers e = rw (ne-eqb (length ns) (7 * (length ns / 7)) e)
+
+  pub other-room : length ns ≡ 7 * (length ns / 7) → (length answers ≡ 4 * (length ns / 7) → ⊥) → isList ns answers ≡ false
+  unfolding isList callsIn
+  other-room l e = rw (eq-eqb (length ns) (7 * (length ns / 7)) l, ne-eqb (length answers) (4 * (length ns / 7)) e)
+
+  pub by-calls : length ns ≡ 7 * (length ns / 7) → length answers ≡ 4 * (length ns / 7) → isList ns answers ≡ allMade ns (length ns / 7)
+  unfolding isList callsIn
+  by-calls l e = rw (eq-eqb (length ns) (7 * (length ns / 7)) l, eq-eqb (length answers) (4 * (length ns / 7)) e)

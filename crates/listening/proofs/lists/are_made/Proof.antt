@@ -1,0 +1,55 @@
+use Rattle.listening.proofs.ListLaws.{not-all, all-next, none-yet}
+use Rattle.listening.specs.Lists.{isMade, allMade}
+use borrow.Author.Tests.{not-true, not-false}
+use borrow.Author.Needs.{needs}
+use native.Mathlib.Omega.{arith}
+use mathlib.Core.Bool.{true}
+use mathlib.Core.Path.{_≡_, sym, ap, _∙_}
+use Prim.Native.Nat.{_≤_, _-_}
+use Rattle.listening.proofs.lists.are_made.Statement.{statement}
+use Rattle.listening.proofs.lists.are_made.Tie as tie
+
+abbrev Inv-loop : tie.InvT-loop
+Inv-loop calls count i₀ i = (i ≤ count) × (allMade calls i ≡ true)
+
+abbrev μ-loop : tie.MeasureT-loop
+μ-loop calls count i₀ i = count - i
+
+loop-holds : tie.Need-loop-holds Inv-loop μ-loop
+loop-holds c = (omega arith, none-yet _)
+
+frame-at-requires : tie.Need-frame-at-requires Inv-loop μ-loop
+frame-at-requires c κs = omega arith
+
+is-made-requires : tie.Need-is-made-requires Inv-loop μ-loop
+is-made-requires c κs = tt
+
+returns : tie.Need-returns Inv-loop μ-loop
+returns c = not-all (c .before .before .before .before .before .before .args .calls .now) (c .before .before .before .before .loop .i) (c .before .before .before .before .before .before .args .count) (omega arith) (sym (c .before .is-made .ensures ∙ ap isMade (c .before .before .frame-at .ensures)) ∙ not-true (c .before .is-made .result) (c .if1 .taken))
+
+add-i : tie.Need-add-i Inv-loop μ-loop
+add-i c = search needs
+
+loop-less : tie.Need-loop-less Inv-loop μ-loop
+loop-less c = omega arith
+
+loop-again : tie.Need-loop-again Inv-loop μ-loop
+loop-again c = (omega arith, all-next (c .before .before .before .before .before .before .args .calls .now) (c .before .before .before .before .loop .i) (c .before .before .before .before .loop .inv .1) (sym (c .before .is-made .ensures ∙ ap isMade (c .before .before .frame-at .ensures)) ∙ not-false (c .before .is-made .result) (c .if1 .left)))
+
+returns-2 : tie.Need-returns-2 Inv-loop μ-loop
+returns-2 c = let all : c .before .loop .i ≡ c .before .before .before .args .count = omega arith in sym (rw all at (c .before .loop .inv .1))
+
+pub are-made-spec : {M : Type 1} → statement M
+are-made-spec =
+    tie.close
+    (tie.spec
+    Inv-loop
+    μ-loop
+    loop-holds
+    frame-at-requires
+    is-made-requires
+    returns
+    add-i
+    loop-less
+    loop-again
+    returns-2)

@@ -1,0 +1,22 @@
+use Rattle.listening.specs.Lists.{isMade}
+use mathlib.Core.Path.{sym, ap}
+use borrow.Author.Needs.{needs}
+use Rattle.listening.proofs.lists.is_made.Statement.{statement}
+use Rattle.listening.proofs.lists.is_made.Tie as tie
+
+enum-told : tie.Need-enum-told
+enum-told c = search needs
+
+enum-told-2 : tie.Need-enum-told-2
+enum-told-2 c = search needs
+
+returns : tie.Need-returns
+unfolding isMade
+returns c = sym (ap isMade (c .enum-told .given .1))
+
+returns-2 : tie.Need-returns-2
+unfolding isMade
+returns-2 c = sym (ap isMade (c .enum-told2 .given .1))
+
+pub is-made-spec : {M : Type 1} → statement M
+is-made-spec = tie.close (tie.spec enum-told enum-told-2 returns returns-2)

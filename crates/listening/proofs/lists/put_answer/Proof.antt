@@ -1,0 +1,79 @@
+use Rattle.listening.specs.Lists.{numbersOf}
+use Rattle.records.proofs.Laws.{then-set}
+use Rattle.little.proofs.Laws.{set-written}
+use lib.ListN.{length-set}
+use Prim.Native.Nat.{ℕ, _+_, _*_}
+use mathlib.Core.List.{List, [], _∷_}
+use native.Mathlib.Omega.{arith}
+use borrow.Author.Needs.{needs}
+use Rattle.listening.proofs.lists.put_answer.Statement.{statement}
+use Rattle.listening.proofs.lists.put_answer.Tie as tie
+
+mul-at : tie.Need-mul-at
+mul-at c = search needs
+
+mul-answers : tie.Need-mul-answers
+mul-answers c = search needs
+
+slice-write-answers : tie.Need-slice-write-answers
+slice-write-answers c = search needs
+
+add-answers : tie.Need-add-answers
+add-answers c = search needs
+
+mul-answers-2 : tie.Need-mul-answers-2
+mul-answers-2 c = search needs
+
+slice-write-answers-2 : tie.Need-slice-write-answers-2
+slice-write-answers-2 c = simp (length-set) (omega arith)
+
+add-answers-2 : tie.Need-add-answers-2
+add-answers-2 c = search needs
+
+mul-answers-3 : tie.Need-mul-answers-3
+mul-answers-3 c = search needs
+
+slice-write-answers-3 : tie.Need-slice-write-answers-3
+slice-write-answers-3 c = simp (length-set) (omega arith)
+
+add-answers-3 : tie.Need-add-answers-3
+add-answers-3 c = search needs
+
+mul-answers-4 : tie.Need-mul-answers-4
+mul-answers-4 c = search needs
+
+slice-write-answers-4 : tie.Need-slice-write-answers-4
+slice-write-answers-4 c = simp (length-set) (omega arith)
+
+same-length : tie.Need-same-length
+same-length c = search needs
+
+returns : tie.Need-returns
+unfolding numbersOf
+returns c =
+    let s : List ℕ = c .args .answers .now in
+    let at : ℕ = 4 * c .args .i in
+    let a = c .args .answer in
+    let one = set-written at (a .refusal) s (omega arith) in
+    let two = then-set at {next = at + 1} (a .refusal ∷ []) (a .first) s one (omega arith) (omega arith) in
+    let three = then-set at {next = at + 2} (a .refusal ∷ a .first ∷ []) (a .second) s two (omega arith) (omega arith) in
+    then-set at {next = at + 3} (a .refusal ∷ a .first ∷ a .second ∷ []) (a .third) s three (omega arith) (omega arith)
+
+pub put-answer-spec : {M : Type 1} → statement M
+put-answer-spec =
+    tie.close
+    (tie.spec
+    mul-at
+    mul-answers
+    slice-write-answers
+    add-answers
+    mul-answers-2
+    slice-write-answers-2
+    add-answers-2
+    mul-answers-3
+    slice-write-answers-3
+    add-answers-3
+    mul-answers-4
+    slice-write-answers-4
+    same-length
+    returns)
