@@ -6,6 +6,8 @@ pub mod lists;
 ghost use mathlib.Core.Path.{_≡_};
 ghost use Rattle.model.specs.declared.Entry.the-variants.{Lot, Run, Block, Stop};
 ghost use Rattle.model.specs.declared.Call.the-variants.{Open, Enter, Back, Ask, Read};
+ghost use Prim.Native.Nat.{_<_};
+ghost use Rattle.model.specs.Sizes.{streams, startOf};
 ghost use Rattle.model.specs.Store.{onStore};
 ghost use Rattle.model.specs.Claims.{on};
 ghost use Rattle.listening.specs.Written.{planOf};
@@ -90,7 +92,7 @@ pub fn ask(store: &[u8], stream: u32, size: u32) -> Answer
     if STREAMS <= stream {
         return answering::refused(2);
     }
-    let start = stream as usize * records::AREA_LENGTH;
+    let start = start_of(stream);
     let end = start + records::AREA_LENGTH;
     area::ask(&store[start..end], size)
 }
@@ -105,7 +107,7 @@ pub fn read(store: &[u8], stream: u32) -> Answer
     if STREAMS <= stream {
         return answering::refused(2);
     }
-    let start = stream as usize * records::AREA_LENGTH;
+    let start = start_of(stream);
     let end = start + records::AREA_LENGTH;
     area::read(&store[start..end])
 }
@@ -120,7 +122,15 @@ pub fn make(store: &mut [u8], stream: u32, call: Call) -> Answer
     if STREAMS <= stream {
         return answering::refused(2);
     }
-    let start = stream as usize * records::AREA_LENGTH;
+    let start = start_of(stream);
     let end = start + records::AREA_LENGTH;
     area::make(&mut store[start..end], call)
+}
+
+// Where a stream's area starts.
+fn start_of(stream: u32) -> usize
+    requires { ⌜ stream < streams ⌝ }
+    ensures { λ r. ⌜ r ≡ startOf stream ⌝ }
+{
+    stream as usize * records::AREA_LENGTH
 }

@@ -1,5 +1,5 @@
-use Prim.Native.Nat.{_+_, _*_, _-_}
 use Rattle.listening.proofs.Lending.{by-length, by-number, by-look}
+use Prim.Native.Nat.{_+_, _-_}
 use native.Mathlib.Omega.{arith}
 use borrow.Author.Needs.{needs}
 use Rattle.listening.proofs.ask.Statement.{statement}
@@ -17,8 +17,8 @@ refused-requires-2 c κs = search needs
 returns-2 : tie.Need-returns-2
 returns-2 c = by-number _ _ _ _ (c .before .before .if1 .left) (c .before .if2 .taken) (c .refused2 .ensures)
 
-mul-start : tie.Need-mul-start
-mul-start c = search needs
+start-of-requires : tie.Need-start-of-requires
+start-of-requires c κs = search needs
 
 add-end : tie.Need-add-end
 add-end c = search needs
@@ -36,7 +36,7 @@ ask-requires : tie.Need-ask-requires
 ask-requires c κs = search needs
 
 returns-3 : tie.Need-returns-3
-returns-3 c = by-look (c .before .before .before .before .before .args .store .now) (c .before .before .before .before .before .args .stream) _ _ (c .before .before .before .before .before .args .stream * 2608) (c .before .before .before .before .before .args .stream * 2608 + 2608 - c .before .before .before .before .before .args .stream * 2608) (c .before .before .before .if1 .left) (c .before .before .if2 .left) (omega arith) (omega arith) (c .ask .ensures)
+returns-3 c = by-look (c .before .before .before .before .before .before .args .store .now) (c .before .before .before .before .before .before .args .stream) _ _ (c .before .before .start-of .result) (c .before .before .start-of .result + 2608 - c .before .before .start-of .result) (c .before .before .before .before .if1 .left) (c .before .before .before .if2 .left) (c .before .before .start-of .ensures) (omega arith) (c .ask .ensures)
 
 pub ask-spec : {M : Type 1} → statement M
 ask-spec =
@@ -46,7 +46,7 @@ ask-spec =
     returns
     refused-requires-2
     returns-2
-    mul-start
+    start-of-requires
     add-end
     sub-ask
     part-ask-start

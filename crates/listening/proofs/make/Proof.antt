@@ -1,5 +1,5 @@
-use Prim.Native.Nat.{_+_, _*_, _-_}
 use Rattle.listening.proofs.Lending.{by-length, by-number, by-area}
+use Prim.Native.Nat.{_+_, _-_}
 use native.Mathlib.Omega.{arith}
 use borrow.Author.Needs.{needs}
 use Rattle.listening.proofs.make.Statement.{statement}
@@ -17,8 +17,8 @@ refused-requires-2 c κs = search needs
 returns-2 : tie.Need-returns-2
 returns-2 c = by-number _ _ _ _ (c .before .before .if1 .left) (c .before .if2 .taken) (c .refused2 .ensures)
 
-mul-start : tie.Need-mul-start
-mul-start c = search needs
+start-of-requires : tie.Need-start-of-requires
+start-of-requires c κs = search needs
 
 add-end : tie.Need-add-end
 add-end c = search needs
@@ -39,7 +39,7 @@ same-length : tie.Need-same-length
 same-length c = search needs
 
 returns-3 : tie.Need-returns-3
-returns-3 c = by-area (c .before .before .before .before .before .before .before .args .store .now) (c .before .before .before .before .before .before .before .args .stream) _ _ (c .before .before .before .before .before .before .before .args .stream * 2608) (c .before .before .before .before .before .before .before .args .stream * 2608 + 2608 - c .before .before .before .before .before .before .before .args .stream * 2608) (c .before .before .before .before .before .if1 .left) (c .before .before .before .before .if2 .left) (omega arith) (omega arith) _ (c .before .before .make .ensures)
+returns-3 c = by-area (c .before .before .before .before .before .before .before .before .args .store .now) (c .before .before .before .before .before .before .before .before .args .stream) _ _ (c .before .before .before .before .start-of .result) (c .before .before .before .before .start-of .result + 2608 - c .before .before .before .before .start-of .result) (c .before .before .before .before .before .before .if1 .left) (c .before .before .before .before .before .if2 .left) (c .before .before .before .before .start-of .ensures) (omega arith) _ (c .before .before .make .ensures)
 
 pub make-spec : {M : Type 1} → statement M
 make-spec =
@@ -49,7 +49,7 @@ make-spec =
     returns
     refused-requires-2
     returns-2
-    mul-start
+    start-of-requires
     add-end
     sub-make
     part-make-start
