@@ -1,0 +1,2 @@
+-- Laws about lines and text buffers.
+pub mod Laws

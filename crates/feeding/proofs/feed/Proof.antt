@@ -1,0 +1,86 @@
+use mathlib.Core.Path.{_≡_, refl}
+use Prim.Native.Nat.{_≤_, _-_}
+use native.Mathlib.Omega.{arith}
+use lib.ListN.{length, take}
+use lib.Seq.{length-take-le, take-all}
+use borrow.Author.Needs.{needs}
+use Rattle.feeding.specs.Fed.{held, FedBy}
+use Rattle.feeding.proofs.Laws.{fed-none, fed-next}
+use Rattle.feeding.proofs.feed.Statement.{statement}
+use Rattle.feeding.proofs.feed.Tie as tie
+
+abbrev Inv-loop : tie.InvT-loop
+Inv-loop store₀ line₀ have piece out₀ kept₀ wrote₀ i₀ store line out kept wrote i =
+    (i ≤ length piece)
+    × (length store ≡ length store₀)
+    × (length out ≡ length out₀)
+    × FedBy (held store₀ line₀ have) (take i piece) out₀ (record { have = kept; wrote = wrote }) store line out
+
+abbrev μ-loop : tie.MeasureT-loop
+μ-loop store₀ line₀ have piece out₀ kept₀ wrote₀ i₀ store line out kept wrote i = length piece - i
+
+loop-holds : tie.Need-loop-holds Inv-loop μ-loop
+loop-holds c =
+    let start = c .before .before .before .before in
+    (omega arith, refl, refl, fed-none _ _ _ _ (start .pre .0) (start .pre .1))
+
+shared-slice-read-take-byte : tie.Need-shared-slice-read-take-byte Inv-loop μ-loop
+shared-slice-read-take-byte c = omega arith
+
+take-byte-requires : tie.Need-take-byte-requires Inv-loop μ-loop
+take-byte-requires c κs =
+    let at-loop = c .before .before .before .before .before in
+    let inv = at-loop .loop .inv in
+    let fed = inv .3 in
+    let piece = c .before .before .before .before .before .before .before .before .before .before .args .piece .now in
+    (fed .room, fed .short, omega (arith, fed .small, length-take-le (at-loop .loop .i) piece (inv .0)))
+
+add-i : tie.Need-add-i Inv-loop μ-loop
+add-i c = omega arith
+
+loop-less : tie.Need-loop-less Inv-loop μ-loop
+loop-less c = omega arith
+
+loop-again : tie.Need-loop-again Inv-loop μ-loop
+loop-again c =
+    let at-loop = c .before .before .before .before .before .before .before .before .before .before .before .before in
+    let inv = at-loop .loop .inv in
+    let start = at-loop .before .before .before .before .before in (
+      omega arith,
+      search needs,
+      search needs,
+      fed-next _ (start .args .piece .now) (start .args .out .now) (at-loop .loop .store) (at-loop .loop .line) (at-loop .loop .out) (at-loop .loop .i) (at-loop .loop .kept) (at-loop .loop .wrote) (inv .3) (omega arith) (omega arith) _ _ _ _ (c .before .before .before .before .before .before .take-byte .ensures),
+    )
+
+same-length : tie.Need-same-length Inv-loop μ-loop
+same-length c = search needs
+
+same-length-2 : tie.Need-same-length-2 Inv-loop μ-loop
+same-length-2 c = search needs
+
+same-length-3 : tie.Need-same-length-3 Inv-loop μ-loop
+same-length-3 c = search needs
+
+returns : tie.Need-returns Inv-loop μ-loop
+returns c =
+    let at-loop = c .before in
+    let piece = at-loop .before .before .before .before .before .args .piece .now in
+    let whole : take (at-loop .loop .i) piece ≡ piece = take-all (at-loop .loop .i) piece (omega arith) in
+    rw whole at (at-loop .loop .inv .3)
+
+pub feed-spec : {M : Type 1} → statement M
+feed-spec =
+    tie.close
+    (tie.spec
+    Inv-loop
+    μ-loop
+    loop-holds
+    shared-slice-read-take-byte
+    take-byte-requires
+    add-i
+    loop-less
+    loop-again
+    same-length
+    same-length-2
+    same-length-3
+    returns)

@@ -1,0 +1,65 @@
+-- Input fed in pieces to a lent store, a lent line buffer and a lent text buffer. Assumes nothing.
+use Prim.Native.Nat.{ℕ, _+_, _*_, _≤_}
+use mathlib.Core.Path.{_≡_}
+use mathlib.Core.List.{List, [], _∷_}
+use lib.ListN.{length, take, drop}
+use Rattle.little.specs.Little.{written}
+use Rattle.frame_text.specs.Frames.{frameLength}
+use Rattle.frame_text.specs.Program.{onLine, output}
+use Rattle.frame_text.specs.Feeding.{Unfinished, begun, afterByte, printedAt, afterBytes, printedBy, atEnd}
+use Rattle.feeding.specs.declared.Fed.{Fed}
+
+-- 45 bytes: what is kept of a line, which is one byte more than a frame has
+abbrev pub lineRoom : ℕ
+lineRoom = frameLength + 1
+
+-- the longest text of a line: 26 digits and a line feed
+abbrev pub textLength : ℕ
+textLength = 27
+
+-- a store, and the unfinished line in the first `have` bytes of a line buffer
+abbrev pub held : List ℕ → List ℕ → ℕ → Unfinished
+held store line have = record { store = store; line = take have line }
+
+-- the store after the end of the input, which ends a line if there are bytes of one
+unfoldable pub storeAtEnd : List ℕ → List ℕ → List ℕ
+storeAtEnd store [] = store
+storeAtEnd store (b ∷ bs) = onLine store (b ∷ bs) .store
+
+-- a line ended: its call is made, and its text stands in a buffer from index `at` on
+pub record LineEnded (store line out : List ℕ) (at wrote : ℕ) (store′ out′ : List ℕ) : Type 0 where
+  pub made : store′ ≡ onLine store line .store
+  pub text : out′ ≡ written at (onLine store line .text) out
+  pub count : wrote ≡ length (onLine store line .text)
+  pub small : wrote ≤ textLength
+
+-- one byte was fed, with `at` bytes of text written before
+pub record ByteTaken (u : Unfinished) (b : ℕ) (out : List ℕ) (at : ℕ) (r : Fed) (store′ line′ out′ : List ℕ) : Type 0 where
+  pub state : held store′ line′ (r .have) ≡ afterByte u b
+  pub short : r .have ≤ lineRoom
+  pub room : length line′ ≡ lineRoom
+  pub text : out′ ≡ written at (printedAt u b) out
+  pub count : r .wrote ≡ at + length (printedAt u b)
+  pub small : r .wrote ≤ at + textLength
+
+-- some bytes were fed: the state after them is held, and their text stands in front of the text buffer, whose other bytes stay
+pub record FedBy (u : Unfinished) (bytes out : List ℕ) (r : Fed) (store′ line′ out′ : List ℕ) : Type 0 where
+  pub state : held store′ line′ (r .have) ≡ afterBytes u bytes
+  pub short : r .have ≤ lineRoom
+  pub room : length line′ ≡ lineRoom
+  pub text : take (r .wrote) out′ ≡ printedBy u bytes
+  pub behind : drop (r .wrote) out′ ≡ drop (r .wrote) out
+  pub small : r .wrote ≤ textLength * length bytes
+
+-- the input ended: the last line's call is made if there are bytes of one, and its text stands in front of the text buffer
+pub record Finished (u : Unfinished) (out : List ℕ) (wrote : ℕ) (store′ out′ : List ℕ) : Type 0 where
+  pub made : store′ ≡ storeAtEnd (u .store) (u .line)
+  pub text : take wrote out′ ≡ atEnd u
+  pub behind : drop wrote out′ ≡ drop wrote out
+  pub small : wrote ≤ textLength
+
+-- a whole input was fed over a fresh store: the buffer's first r bytes are the program's output
+pub record AllFed (input : List ℕ) (r : ℕ) (store′ out′ : List ℕ) : Type 0 where
+  pub text : take r out′ ≡ output input
+  pub inside : r ≤ length out′
+  pub made : store′ ≡ storeAtEnd (afterBytes begun input .store) (afterBytes begun input .line)
