@@ -8,6 +8,8 @@ use Rattle.frame_text.specs.Frames.{frameLength}
 use Rattle.frame_text.specs.Program.{onLine, output}
 use Rattle.frame_text.specs.Feeding.{Unfinished, begun, afterByte, printedAt, afterBytes, printedBy, atEnd}
 use Rattle.feeding.specs.declared.Fed.{Fed}
+-- passed on to the program, whose store begins all zero
+unfoldable pub use Rattle.model.specs.Store.{fresh}
 
 -- 45 bytes: what is kept of a line, which is one byte more than a frame has
 abbrev pub lineRoom : ℕ

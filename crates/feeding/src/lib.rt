@@ -1,6 +1,7 @@
 // Frames fed in pieces, paper 01, "Hexadecimal frames": the calls of the lines are made on a lent store, their text is written into
 // a lent buffer. A piece may be cut anywhere, so the bytes of a line that has not ended are kept from piece to piece in a third.
-// Whatever the pieces, their texts and the text at the end, one behind the other, are the program's output for the whole input.
+// Wherever it is cut, the texts of an input's pieces and the text at its end, one behind the other, are the program's output: by the
+// claim frame_text::claims::input_is_fed_in_pieces, each piece being fed to the state that the one before left.
 ghost use mathlib.Core.Path.{_≡_};
 ghost use Prim.Native.Nat.{_+_, _*_, _≤_};
 ghost use lib.ListN.{length, take};
@@ -14,6 +15,9 @@ pub struct Fed {
     pub have: usize,
     pub wrote: usize,
 }
+
+// 41,728
+pub const STORE_LENGTH: usize = listening::STORE_LENGTH;
 
 // A frame's 44 digits and one byte more: a longer line is bad however it goes on.
 pub const LINE_ROOM: usize = 45;

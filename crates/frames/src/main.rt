@@ -3,17 +3,15 @@
 ghost use mathlib.Core.Path.{_≡_};
 ghost use Prim.Native.Nat.{_*_, _≤_};
 ghost use lib.ListN.{length};
-ghost use Rattle.feeding.specs.Fed.{lineRoom, textLength};
+ghost use Rattle.feeding.specs.Fed.{fresh, lineRoom, textLength};
 use libc::STDERR_FILENO;
 use libc::STDIN_FILENO;
 use libc::STDOUT_FILENO;
 
-const STORE_LENGTH: usize = 41728;
-
 // As much as one read takes.
 const PIECE_LENGTH: usize = 16384;
 
-// Room for the text of a piece that is all line feeds.
+// Room for the text of a whole piece, since no byte prints more than a line.
 const OUT_LENGTH: usize = feeding::TEXT_LENGTH * PIECE_LENGTH;
 
 // What a turn leaves: the bytes of the unfinished line, and whether there may be more input.
@@ -23,7 +21,7 @@ struct Turn {
 }
 
 fn main() {
-    let mut store = [0u8; STORE_LENGTH];
+    let mut store = [0u8; feeding::STORE_LENGTH];
     let mut line = [0u8; feeding::LINE_ROOM];
     let mut piece = [0u8; PIECE_LENGTH];
     let mut out = [0u8; OUT_LENGTH];
@@ -32,7 +30,7 @@ fn main() {
 
 // A proved loop has to end, and nothing says that the input does: it counts its turns down from a number that no run uses up.
 fn run(store: &mut [u8], line: &mut [u8], piece: &mut [u8], out: &mut [u8])
-    requires { ⌜ (length (now line) ≡ lineRoom) × (textLength * length (now piece) ≤ length (now out)) × (textLength ≤ length (now out)) ⌝ }
+    requires { ⌜ (now store ≡ fresh) × (length (now line) ≡ lineRoom) × (textLength * length (now piece) ≤ length (now out)) × (textLength ≤ length (now out)) ⌝ }
 {
     let mut have = 0;
     let mut going = true;

@@ -1,3 +1,4 @@
+-- The loop's invariant: the first i bytes of the piece were fed, and the lent buffers kept their lengths. The measure is how many bytes are left.
 use mathlib.Core.Path.{_≡_, refl}
 use Prim.Native.Nat.{_≤_, _-_}
 use native.Mathlib.Omega.{arith}

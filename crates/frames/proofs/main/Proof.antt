@@ -1,3 +1,4 @@
+use Rattle.feeding.specs.Fed.{fresh}
 use mathlib.Core.Path.{refl}
 use lib.Dec.{lit≤}
 use borrow.Author.Needs.{needs}
@@ -17,7 +18,8 @@ slice-aggregate-run-4 : tie.Need-slice-aggregate-run-4
 slice-aggregate-run-4 c = search needs
 
 run-requires : tie.Need-run-requires
-run-requires c κs = (refl, lit≤ tt, lit≤ tt)
+unfolding fresh
+run-requires c κs = (refl, refl, lit≤ tt, lit≤ tt)
 
 returns : tie.Need-returns
 returns c = search needs

@@ -1,3 +1,4 @@
+-- The loop's invariant: the lent buffers kept their lengths, and the unfinished line is within its own. The measure is how many turns are left.
 use mathlib.Core.Path.{_≡_}
 use Prim.Native.Nat.{_≤_}
 use lib.ListN.{length}
