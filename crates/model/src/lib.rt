@@ -47,7 +47,8 @@ pub enum Call {
     Read,
 }
 
-// What a call gives: its refusal number, 0 for none, and three numbers.
+// What a call gives: its refusal number, 0 for none, and three numbers. It is laid out as C lays it out, to be handed over whole.
+#[repr(C)]
 pub struct Answer {
     pub refusal: u32,
     pub first: u32,
