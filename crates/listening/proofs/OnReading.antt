@@ -17,7 +17,7 @@ use Rattle.model.proofs.AreaReading.{area-of-reading}
 use Rattle.model.proofs.FigureBounds.{FiguresWithin, figures-within}
 use Rattle.model.proofs.Keeping.{plan-of, entries-of}
 use Rattle.replay.specs.declared.Standing.{Standing}
-use Rattle.replay.specs.Replaying.{nothingStands, standingOf}
+use Rattle.replay.specs.Standing.{nothingStands, standingOf}
 
 -- an area in which a stream is opened, as the reading tells it
 pub record OpenedAt (area : List ℕ) (s : Standing) (es : List Entry) : Type 0 where

@@ -18,9 +18,9 @@ use Rattle.model.specs.declared.Answer.{Answer}
 use Rattle.model.specs.Sizes.{recordLength, mostRecords}
 use Rattle.records.specs.declared.Record.{Record}
 use Rattle.records.specs.Records.{recordIn, recordAt}
-use Rattle.replay.specs.declared.Entered.{Entered}
-use Rattle.replay.specs.Replaying.{recordsIn, figuresTo, standTo, Replayed}
-use Rattle.replay.proofs.Parts.{sound-parts}
+use Rattle.replaying.specs.declared.Entered.{Entered}
+use Rattle.replaying.specs.Replaying.{recordsIn, figuresTo, standTo, Replayed}
+use Rattle.replaying.proofs.Parts.{sound-parts}
 use Rattle.model.specs.Stations.{Station, unopened, opened, validPlan, isContinuous}
 use Rattle.model.specs.Figuring.{sampleAsked, stepped, started, figuresOf}
 use Rattle.model.specs.Calls.{

@@ -1,6 +1,2 @@
--- Laws of reading an area in parts.
-pub mod RecordForm
-pub mod Parts
-pub mod Answers
-pub mod Turns
+-- Laws of what an area says.
 pub mod Readings

@@ -19,9 +19,10 @@ use Rattle.model.proofs.AreaReading.{reading-of-area}
 use Rattle.model.proofs.Booleans.{holds-of, never-both}
 use Rattle.records.specs.Records.{Decides}
 use Rattle.records.proofs.Laws.{decided-not}
-use Rattle.replay.specs.declared.Entered.{Entered}
-use Rattle.replay.specs.Replaying.{recordsIn, figuresTo, standTo, Replayed, nothingStands, standingOf}
-use Rattle.replay.proofs.Parts.{length-entries, parts-sound, SoundParts, sound-parts, zero-parts}
+use Rattle.replaying.specs.declared.Entered.{Entered}
+use Rattle.replaying.specs.Replaying.{recordsIn, figuresTo, standTo, Replayed}
+use Rattle.replay.specs.Standing.{nothingStands, standingOf}
+use Rattle.replaying.proofs.Parts.{length-entries, parts-sound, SoundParts, sound-parts, zero-parts}
 
 -- where the first byte is 0, the area is sound if all bytes are
 pub says-unopened : (area : List ℕ) (zero : Bool) → length area ≡ areaLength → getD area 0 0 ≡ 0

@@ -1,2 +1,2 @@
--- Reading an area in parts, as the code goes about it.
-pub mod Replaying
+-- What an area says.
+pub mod Standing

@@ -7,11 +7,11 @@ ghost use Rattle.model.specs.Stations.{validPlan};
 ghost use Rattle.model.proofs.FigureBounds.{FiguresWithin};
 ghost use mathlib.Core.Bool.{not, _&&_};
 ghost use lib.Dec.{eqb};
-ghost use Rattle.replay.specs.Replaying.{entered, NoMore, soundAt, unsoundAt};
-use crate::Entered;
+ghost use Rattle.replaying.specs.Replaying.{entered, NoMore, soundAt, unsoundAt};
 use model::Figures;
 use model::Plan;
 use records::Record;
+use replaying::Entered;
 use rules::refusing;
 use rules::stepping;
 

@@ -8,16 +8,12 @@ ghost use lib.ListN.{length};
 ghost use Rattle.model.specs.Sizes.{areaLength};
 ghost use Rattle.model.specs.Stations.{validPlan};
 ghost use Rattle.model.specs.Area.{reading};
-ghost use Rattle.replay.specs.Replaying.{Replayed, nothingStands, standingOf};
+ghost use Rattle.replaying.specs.Replaying.{Replayed};
+ghost use Rattle.replay.specs.Standing.{nothingStands, standingOf};
 use model::Figures;
 use model::Plan;
+use replaying::Entered;
 use rules::plan;
-
-// A record entered: whether it could stand there, and the figures after it.
-pub struct Entered {
-    pub sound: bool,
-    pub figures: Figures,
-}
 
 // What an area says: whether it is sound, whether the stream is opened, and if so with which plan, how many records stand, and the
 // figures after them.

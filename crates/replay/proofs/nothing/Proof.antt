@@ -1,4 +1,4 @@
-use Rattle.replay.specs.Replaying.{nothingStands}
+use Rattle.replay.specs.Standing.{nothingStands}
 use borrow.Author.Needs.{needs}
 use Rattle.replay.proofs.nothing.Statement.{statement}
 use Rattle.replay.proofs.nothing.Tie as tie

@@ -2,13 +2,13 @@ use mathlib.Core.Path.{sym, ap, _∙_}
 use native.Mathlib.Omega.{arith}
 use borrow.Author.Tests.{not-true, not-false}
 use Rattle.little.specs.Little.{AreBytes}
-use Rattle.replay.proofs.Parts.{figures-to-within}
-use Rattle.replay.proofs.Turns.{turn-taken, turn-failed, stand-none, figures-none}
+use Rattle.replaying.proofs.Parts.{figures-to-within}
+use Rattle.replaying.proofs.Turns.{turn-taken, turn-failed, stand-none, figures-none}
 use Prim.Native.Nat.{_≤_, _-_}
 use mathlib.Core.Path.{_≡_}
 use mathlib.Core.Bool.{true}
 use borrow.Author.Needs.{needs}
-use Rattle.replay.specs.Replaying.{entered, standTo, figuresTo}
+use Rattle.replaying.specs.Replaying.{entered, standTo, figuresTo}
 use Rattle.replay.proofs.replay.Statement.{statement}
 use Rattle.replay.proofs.replay.Tie as tie
 

@@ -1,4 +1,4 @@
-use Rattle.replay.proofs.Answers.{not-formed, spare-set, more-set, kind-unknown, no-more}
+use Rattle.replaying.proofs.Answers.{not-formed, spare-set, more-set, kind-unknown, no-more}
 use borrow.Author.Tests.{not-true}
 use mathlib.Core.Path.{sym, _∙_}
 use borrow.Author.Needs.{needs}

@@ -1,8 +1,8 @@
 use Rattle.rules.proofs.Counts.{all-at-most}
 use Rattle.model.proofs.FigureBounds.{lot-size-range}
 use Rattle.model.proofs.Allowed.{allowed-lot}
-use Rattle.replay.proofs.Answers.{not-formed, flag-set, lot-formed, lot-of, accepted, not-accepted, accepted-zero}
-use Rattle.replay.specs.Replaying.{soundAt}
+use Rattle.replaying.proofs.Answers.{not-formed, flag-set, lot-formed, lot-of, accepted, not-accepted, accepted-zero}
+use Rattle.replaying.specs.Replaying.{soundAt}
 use Rattle.model.specs.Figuring.{sampleAsked}
 use Rattle.model.specs.declared.Entry.the-variants.{Lot}
 use native.Mathlib.Omega.{arith}

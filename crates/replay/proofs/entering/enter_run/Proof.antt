@@ -1,7 +1,7 @@
 use Rattle.model.proofs.Allowed.{allowed-run, continuous-plan}
 use native.Mathlib.Omega.{arith}
-use Rattle.replay.proofs.Answers.{run-formed, run-of, accepted, not-accepted, accepts-zero, accepts-other}
-use Rattle.replay.specs.Replaying.{soundAt}
+use Rattle.replaying.proofs.Answers.{run-formed, run-of, accepted, not-accepted, accepts-zero, accepts-other}
+use Rattle.replaying.specs.Replaying.{soundAt}
 use Rattle.model.specs.declared.Entry.the-variants.{Run}
 use mathlib.Core.Path.{sym, ap, _∙_}
 use borrow.Author.Needs.{needs}

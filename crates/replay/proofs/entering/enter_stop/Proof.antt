@@ -1,5 +1,5 @@
-use Rattle.replay.proofs.Answers.{stop-formed, stop-of, accepted, not-accepted, accepts-zero, accepts-other}
-use Rattle.replay.specs.Replaying.{soundAt}
+use Rattle.replaying.proofs.Answers.{stop-formed, stop-of, accepted, not-accepted, accepts-zero, accepts-other}
+use Rattle.replaying.specs.Replaying.{soundAt}
 use Rattle.model.specs.declared.Entry.the-variants.{Stop}
 use mathlib.Core.Path.{sym, ap, _∙_}
 use borrow.Author.Needs.{needs}

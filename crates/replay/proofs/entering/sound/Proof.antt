@@ -1,4 +1,4 @@
-use Rattle.replay.specs.Replaying.{soundAt}
+use Rattle.replaying.specs.Replaying.{soundAt}
 use mathlib.Core.Path.{refl}
 use Rattle.replay.proofs.entering.sound.Statement.{statement}
 use Rattle.replay.proofs.entering.sound.Tie as tie

@@ -1,4 +1,4 @@
-use Rattle.replay.specs.Replaying.{unsoundAt}
+use Rattle.replaying.specs.Replaying.{unsoundAt}
 use mathlib.Core.Path.{refl}
 use Rattle.replay.proofs.entering.unsound.Statement.{statement}
 use Rattle.replay.proofs.entering.unsound.Tie as tie

@@ -4,21 +4,18 @@ use mathlib.Core.Bool.{Bool, true, false, cond, _&&_, _||_}
 use mathlib.Core.List.{List}
 use mathlib.Core.Path.{_≡_}
 use lib.Dec.{eqb}
-use lib.ListN.{length}
 use Rattle.little.specs.Little.{part}
 use Rattle.model.specs.declared.Plan.{Plan}
 use Rattle.model.specs.declared.Entry.{Entry}
 use Rattle.model.specs.declared.Entry.the-variants.{Lot, Run, Block, Stop}
 use Rattle.model.specs.declared.Figures.{Figures}
 use Rattle.model.specs.Sizes.{recordLength, headerLength, mostRecords}
-use Rattle.model.specs.Stations.{unopened, opened}
-use Rattle.model.specs.Figuring.{sampleAsked, started, stepped, figuresOf}
-use Rattle.model.specs.Area.{entriesIn, Reading, unsound, holds}
+use Rattle.model.specs.Figuring.{sampleAsked, stepped, figuresOf}
+use Rattle.model.specs.Area.{entriesIn}
 use Rattle.rules.specs.Replayed.{accepts}
 use Rattle.records.specs.declared.Record.{Record}
 use Rattle.records.specs.Records.{recordIn, recordAt}
-use Rattle.replay.specs.declared.Entered.{Entered}
-use Rattle.replay.specs.declared.Standing.{Standing}
+use Rattle.replaying.specs.declared.Entered.{Entered}
 
 -- the entry in a record, after figures f: a lot's sample is the one that was asked
 unfoldable pub entryOf : Plan → Figures → Record → Entry
@@ -72,17 +69,3 @@ standTo p area (suc i) = standTo p area i && stands p (figuresTo p area i) i (re
 pub record Replayed (p : Plan) (area : List ℕ) (count : ℕ) (r : Entered) : Type 0 where
   pub allStand : r .sound ≡ standTo p area count
   pub figuresAfter : r .sound ≡ true → r .figures ≡ figuresTo p area count
-
--- an area that is unsound or unopened has no plan and no figures to tell of
-abbrev pub noPlan : Plan
-noPlan = record { kind = 0; option = 0; a = 0; b = 0 }
-
-unfoldable pub nothingStands : Bool → Standing
-nothingStands sound = record { sound = sound; opened = false; plan = noPlan; count = 0; figures = started noPlan }
-
--- what a reading says
-unfoldable pub standingOf : Reading → Standing
-standingOf unsound = nothingStands false
-standingOf (holds unopened) = nothingStands true
-standingOf (holds (opened p es)) =
-    record { sound = true; opened = true; plan = p; count = length es; figures = figuresOf p es }

@@ -13,7 +13,7 @@ use Rattle.model.specs.Calls.{firstOf, entryRefusals}
 use Rattle.model.proofs.Booleans.{both-true, not-false-of}
 use Rattle.records.specs.declared.Record.{Record}
 use Rattle.rules.specs.Replayed.{accepts}
-use Rattle.replay.specs.Replaying.{entryOf, wellFormed, stands, entered, soundAt, unsoundAt, NoMore}
+use Rattle.replaying.specs.Replaying.{entryOf, wellFormed, stands, entered, soundAt, unsoundAt, NoMore}
 
 module _ (p : Plan) (f : Figures) (i : ℕ) (r : Record) where
   pub not-formed : wellFormed r ≡ false → entered p f i r ≡ unsoundAt f

@@ -50,8 +50,8 @@ use Rattle.model.proofs.AreaReading.{
 use Rattle.rules.specs.Replayed.{accepts}
 use Rattle.records.specs.Records.{recordIn, recordAt}
 use Rattle.records.proofs.Laws.{part-bytes, part-part, part-of-byte, part-join, record-at}
-use Rattle.replay.specs.Replaying.{entryOf, wellFormed, stands, recordsIn, figuresTo, standTo}
-use Rattle.replay.proofs.RecordForm.{part-is-bytes, record-of, formed-of, entry-of-record, words-of}
+use Rattle.replaying.specs.Replaying.{entryOf, wellFormed, stands, recordsIn, figuresTo, standTo}
+use Rattle.replaying.proofs.RecordForm.{part-is-bytes, record-of, formed-of, entry-of-record, words-of}
 
 -- ---- the records, one after the other
 

@@ -25,7 +25,7 @@ use Rattle.model.proofs.AreaReading.{entry-read}
 use Rattle.records.specs.declared.Record.{Record}
 use Rattle.records.specs.Records.{recordIn}
 use Rattle.records.proofs.Laws.{part-bytes, part-of-value, part-of-byte, part-join}
-use Rattle.replay.specs.Replaying.{entryOf, wellFormed}
+use Rattle.replaying.specs.Replaying.{entryOf, wellFormed}
 
 -- the entry in a record's bytes is the one of its numbers
 pub entry-in : (p : Plan) (f : Figures) (r : List ℕ) → entryIn p f r ≡ entryOf p f (recordIn r)

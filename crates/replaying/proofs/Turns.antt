@@ -11,9 +11,9 @@ use Rattle.model.specs.Figuring.{started, figuresOf}
 use Rattle.model.specs.Area.{entriesIn}
 use Rattle.model.proofs.Booleans.{never-both}
 use Rattle.records.specs.Records.{recordIn, recordAt}
-use Rattle.replay.specs.declared.Entered.{Entered}
-use Rattle.replay.specs.Replaying.{entered, figuresTo, standTo, Replayed}
-use Rattle.replay.proofs.Parts.{figures-next, stand-fails}
+use Rattle.replaying.specs.declared.Entered.{Entered}
+use Rattle.replaying.specs.Replaying.{entered, figuresTo, standTo, Replayed}
+use Rattle.replaying.proofs.Parts.{figures-next, stand-fails}
 
 module _ (p : Plan) (area : List ℕ) (i : ℕ) (f : Figures) (step : Entered)
     (before : standTo p area i ≡ true) (same : f ≡ figuresTo p area i)

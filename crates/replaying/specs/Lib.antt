@@ -1,0 +1,2 @@
+-- Reading an area record after record.
+pub mod Replaying
