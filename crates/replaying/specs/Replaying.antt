@@ -1,15 +1,17 @@
 -- Reading an area record after record: what each record has to be, and what the replay then knows. Assumes nothing.
-use Prim.Native.Nat.{ℕ, zero, suc, _*_}
+use Prim.Native.Nat.{ℕ, zero, suc, _+_, _*_, _≤_}
 use mathlib.Core.Bool.{Bool, true, false, cond, _&&_, _||_}
 use mathlib.Core.List.{List}
 use mathlib.Core.Path.{_≡_}
-use lib.Dec.{eqb}
+use lib.Dec.{T, eqb, leb}
+use lib.ListN.{length}
 use Rattle.little.specs.Little.{part}
 use Rattle.model.specs.declared.Plan.{Plan}
 use Rattle.model.specs.declared.Entry.{Entry}
 use Rattle.model.specs.declared.Entry.the-variants.{Lot, Run, Block, Stop}
 use Rattle.model.specs.declared.Figures.{Figures}
-use Rattle.model.specs.Sizes.{recordLength, headerLength, mostRecords}
+use Rattle.model.specs.Sizes.{recordLength, headerLength, mostRecords, areaLength}
+use Rattle.model.specs.Stations.{validPlan}
 use Rattle.model.specs.Figuring.{sampleAsked, stepped, figuresOf}
 use Rattle.model.specs.Area.{entriesIn}
 use Rattle.rules.specs.Replayed.{accepts}
@@ -30,6 +32,16 @@ wellFormed r =
     eqb (r .spare) 0
     && cond (eqb (r .kind) 1) (eqb (r .flag) 0)
     ((eqb (r .kind) 2 || eqb (r .kind) 3 || eqb (r .kind) 4) && (eqb (r .b) 0 && eqb (r .c) 0 && eqb (r .d) 0))
+
+-- the first four bytes of a record as one number
+unfoldable pub headOf : Record → ℕ
+headOf r = r .kind + r .flag * 256 + r .spare * 65536
+
+-- a record of a stop whose arguments no stream refuses: a pause of up to 255 days, or another set-up
+unfoldable pub isStop : Record → Bool
+isStop r =
+    (eqb (r .b) 0 && eqb (r .c) 0 && eqb (r .d) 0)
+    && cond (eqb (headOf r) 260) (leb (r .a) 255) (eqb (headOf r) 516 && eqb (r .a) 0)
 
 -- a record without a second, third or fourth number
 pub record NoMore (r : Record) : Type 0 where
@@ -64,6 +76,15 @@ figuresTo p area i = figuresOf p (entriesIn p (recordsIn area) i)
 unfoldable pub standTo : Plan → List ℕ → ℕ → Bool
 standTo p area zero = true
 standTo p area (suc i) = standTo p area i && stands p (figuresTo p area i) i (recordIn (recordAt area i))
+
+-- what a replay of the records from `from` to `to` starts with: the figures after those before
+pub record Ready (p : Plan) (area : List ℕ) (f : Figures) (from to : ℕ) : Type 0 where
+  pub whole : length area ≡ areaLength
+  pub valid : T (validPlan p)
+  pub inOrder : from ≤ to
+  pub room : to ≤ mostRecords
+  pub stood : standTo p area from ≡ true
+  pub brought : f ≡ figuresTo p area from
 
 -- what a replay of an area's first records gives: whether each stands, and if so the figures after them
 pub record Replayed (p : Plan) (area : List ℕ) (count : ℕ) (r : Entered) : Type 0 where

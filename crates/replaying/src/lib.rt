@@ -1,9 +1,59 @@
 // Reading an area record after record: what each record has to be, and what a replay of them knows. The loops themselves are in a
 // crate for each plan; here are the definitions and laws that they share.
+ghost use mathlib.Core.Path.{_≡_};
+ghost use Prim.Native.Nat.{_<_};
+ghost use Rattle.replaying.specs.Replaying.{headOf, isStop};
 use model::Figures;
+use records::Record;
 
 // Records entered: whether each could stand there, and the figures after them.
 pub struct Entered {
     pub sound: bool,
     pub figures: Figures,
+}
+
+// The heads of the records that can stand: the first four bytes as one number, kind + 256 × flag.
+pub const LOT: u32 = 1;
+
+pub const RUN: u32 = 2;
+
+pub const RUN_WRONG: u32 = 258;
+
+pub const BLOCK: u32 = 3;
+
+pub const BLOCK_WRONG: u32 = 259;
+
+// A stop of why 1, and one of why 2.
+pub const PAUSE: u32 = 260;
+
+pub const CHANGE: u32 = 516;
+
+// A record's first four bytes as one number. It is made where the bytes are read, so that they are loaded and compared at once.
+pub fn head_of(read: Record) -> u32
+    ensures { λ r. ⌜ (r ≡ headOf read) × (read .kind < 256) × (read .flag < 256) ⌝ }
+{
+    read.kind as u32 + read.flag as u32 * 256 + read.spare as u32 * 65536
+}
+
+// Whether a record is a stop whose arguments no stream refuses.
+pub fn is_stop(head: u32, read: Record) -> bool
+    requires { ⌜ head ≡ headOf read ⌝ }
+    ensures { λ r. ⌜ r ≡ isStop read ⌝ }
+{
+    if read.b != 0 {
+        return false;
+    }
+    if read.c != 0 {
+        return false;
+    }
+    if read.d != 0 {
+        return false;
+    }
+    if head == PAUSE {
+        return read.a <= 255;
+    }
+    if head == CHANGE {
+        return read.a == 0;
+    }
+    false
 }
