@@ -9,7 +9,7 @@ use native.Mathlib.Numerals.{add-one}
 use native.Mathlib.Omega.{arith}
 use lib.Dec.{lit<}
 use lib.ListN.{length, take, drop, getD, set, length-append, length-take, length-drop, take-append-drop}
-use lib.Seq.{length-take-le, take-at, drop-at, take-append-seam, set-split, drop-drop, getD-take, getD-drop, ext-getD}
+use lib.Seq.{drop-cons, length-take-le, take-at, drop-at, take-append-seam, set-split, drop-drop, getD-take, getD-drop, ext-getD}
 use Rattle.little.specs.Little.{bytes, value, part, written, AreBytes}
 
 -- ---- a number and its bytes
@@ -50,6 +50,47 @@ bytes-value (b ∷ s) h =
 pub length-part : (at k : ℕ) (s : List ℕ) → at + k ≤ length s → length (part at k s) ≡ k
 unfolding part
 length-part at k s h = simp (length-take, length-drop) (omega arith)
+
+-- the number in a part: its first byte, and 256 times the rest
+value-first : (at k next : ℕ) (s : List ℕ) → at < length s → next ≡ at + 1
+    → value (part at (suc k) s) ≡ getD s at 0 + 256 * value (part next k s)
+unfolding value part
+value-first at k next s h e = rw (e, drop-cons s at 0 h, add-one at)
+
+value-none : (at : ℕ) (s : List ℕ) → value (part at 0 s) ≡ 0
+unfolding value part
+value-none at s = refl
+
+-- it is the sum of its bytes, each at its weight
+module _ (at : ℕ) (s : List ℕ) where
+  pub value-two : at + 2 ≤ length s → getD s at 0 + getD s (at + 1) 0 * 256 ≡ value (part at 2 s)
+  value-two h =
+      omega (
+        arith,
+        value-first at 1 (at + 1) s (omega arith) (omega arith),
+        value-first (at + 1) 0 (at + 2) s (omega arith) (omega arith),
+        value-none (at + 2) s,
+      )
+
+  -- four bytes, and k more behind them
+  value-more : (k : ℕ) → at + 4 ≤ length s
+      → getD s at 0 + getD s (at + 1) 0 * 256 + getD s (at + 2) 0 * 65536 + getD s (at + 3) 0 * 16777216
+      + value (part (at + 4) k s) * 4294967296 ≡ value (part at (suc (suc (suc (suc k)))) s)
+  value-more k h =
+      omega (
+        arith,
+        value-first at (suc (suc (suc k))) (at + 1) s (omega arith) (omega arith),
+        value-first (at + 1) (suc (suc k)) (at + 2) s (omega arith) (omega arith),
+        value-first (at + 2) (suc k) (at + 3) s (omega arith) (omega arith),
+        value-first (at + 3) k (at + 4) s (omega arith) (omega arith),
+      )
+
+  pub value-four : at + 4 ≤ length s
+      → getD s at 0 + getD s (at + 1) 0 * 256 + getD s (at + 2) 0 * 65536 + getD s (at + 3) 0 * 16777216 ≡ value (part at 4 s)
+  value-four h = omega (arith, value-more 0 h, value-none (at + 4) s)
+
+  pub value-eight : at + 8 ≤ length s → value (part at 4 s) + value (part (at + 4) 4 s) * 4294967296 ≡ value (part at 8 s)
+  value-eight h = omega (arith, value-four (omega arith), value-more 4 (omega arith))
 
 -- two lists as long that agree from index `at` up to at + k have the same part there
 part-ext : (at k : ℕ) (s t : List ℕ) → length s ≡ length t → ((i : ℕ) → at ≤ i → i < at + k → getD s i 0 ≡ getD t i 0) → part at k s ≡ part at k t

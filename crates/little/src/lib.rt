@@ -1,9 +1,10 @@
 // Little-endian numbers of two, four and eight bytes at an offset of a byte slice.
 //
-// The contracts cite `specs/Little.antt`; `proofs/Laws.antt` has the laws of its definitions.
+// The contracts cite `specs/Little.antt`; `proofs/Laws.antt` has the laws of its definitions. A number is read as one flat sum of
+// its bytes: that is compiled to one load wherever it is used, where a loop over the bytes stays bytes until late.
 ghost use mathlib.Core.Path.{_≡_};
-ghost use Prim.Native.Nat.{_+_, _≤_, _<_, _^_};
-ghost use lib.ListN.{length};
+ghost use Prim.Native.Nat.{_+_, _≤_, _<_};
+ghost use lib.ListN.{length, getD};
 ghost use Rattle.little.specs.Little.{bytes, value, part, written};
 
 // The number in the two bytes of s from index `at` on.
@@ -11,7 +12,7 @@ pub fn get_u16(s: &[u8], at: usize) -> u16
     requires { ⌜ at + 2 ≤ length (now s) ⌝ }
     ensures { λ r. ⌜ r ≡ value (part at 2 (now (s .entry))) ⌝ }
 {
-    get(s, at, 2) as u16
+    (byte(s, at) + byte(s, at + 1) * 256) as u16
 }
 
 // The number in the four bytes of s from index `at` on.
@@ -19,7 +20,7 @@ pub fn get_u32(s: &[u8], at: usize) -> u32
     requires { ⌜ at + 4 ≤ length (now s) ⌝ }
     ensures { λ r. ⌜ r ≡ value (part at 4 (now (s .entry))) ⌝ }
 {
-    get(s, at, 4) as u32
+    byte(s, at) + byte(s, at + 1) * 256 + byte(s, at + 2) * 65536 + byte(s, at + 3) * 16777216
 }
 
 // The number in the eight bytes of s from index `at` on.
@@ -27,7 +28,7 @@ pub fn get_u64(s: &[u8], at: usize) -> u64
     requires { ⌜ at + 8 ≤ length (now s) ⌝ }
     ensures { λ r. ⌜ r ≡ value (part at 8 (now (s .entry))) ⌝ }
 {
-    get(s, at, 8)
+    get_u32(s, at) as u64 + get_u32(s, at + 4) as u64 * 4294967296
 }
 
 // Writes x's two bytes into s from index `at` on.
@@ -54,18 +55,12 @@ pub fn put_u64(s: &mut [u8], at: usize, x: u64)
     put(s, at, 8, x);
 }
 
-// The number in the `width` bytes of s from index `at` on, at most eight. A cast to that width keeps it.
-fn get(s: &[u8], at: usize, width: usize) -> u64
-    requires { ⌜ (at + width ≤ length (now s)) × (width ≤ 8) ⌝ }
-    ensures { λ r. ⌜ (r ≡ value (part at width (now (s .entry)))) × (r < 256 ^ width) ⌝ }
+// The byte of s at an index.
+fn byte(s: &[u8], at: usize) -> u32
+    requires { ⌜ at < length (now s) ⌝ }
+    ensures { λ r. ⌜ (r ≡ getD (now (s .entry)) at 0) × (r < 256) ⌝ }
 {
-    let mut x: u64 = 0;
-    let mut i = width;
-    while 0 < i {
-        i -= 1;
-        x = x * 256 + s[at + i] as u64;
-    }
-    x
+    s[at] as u32
 }
 
 // Writes x's `width` low bytes into s from index `at` on.

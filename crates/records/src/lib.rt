@@ -159,20 +159,21 @@ pub fn has_figures(area: &[u8], figures: Figures) -> bool
     true
 }
 
-// Is every byte zero from an index on? The loop runs to its end whatever it finds: it is then compiled to steps of many bytes.
+// Is every byte zero from an index on? The loop looks for the largest and runs to its end whatever it finds: so it is compiled to
+// steps of many bytes.
 pub fn is_zero_from(area: &[u8], from: usize) -> bool
     requires { ⌜ from ≤ length (now area) ⌝ }
     ensures { λ r. ⌜ Decides r (drop from (now (area .entry)) ≡ zeros (length (now (area .entry)) - from)) ⌝ }
 {
-    let mut clean = true;
+    let mut most: u8 = 0;
     let mut i = from;
     while i < area.len() {
-        if area[i] != 0 {
-            clean = false;
+        if most < area[i] {
+            most = area[i];
         }
         i += 1;
     }
-    clean
+    most == 0
 }
 
 // Writes two bytes, and two zeros behind them: how a plan and a record start.

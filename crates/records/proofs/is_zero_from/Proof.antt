@@ -1,6 +1,8 @@
--- `records::is_zero_from` meets its contract. The loop's invariant: the flag tells whether the bytes that were passed are zero. The measure is how many are left.
+-- `records::is_zero_from` meets its contract. The loop's invariant: no byte that was passed is above the largest, which is 0 where
+-- they are. The measure is how many are left.
 -- Assumes nothing.
 use borrow.Author.Count.{below-more}
+use borrow.Author.Tests.{eqb-true, eq-eqb}
 use mathlib.Core.Path.{_≡_, sym, ap, _∙_}
 use mathlib.Core.Logic.{⊎-elim}
 use mathlib.Core.List.{List}
@@ -10,7 +12,6 @@ use lib.ListN.{length, drop, getD, length-drop, length-replicate, getD-replicate
 use lib.Seq.{getD-drop, ext-getD}
 use Rattle.model.specs.Area.{zeros}
 use Rattle.records.specs.Records.{Decides}
-use Rattle.records.proofs.Laws.{proven, refuted, decides-same}
 use Rattle.records.proofs.is_zero_from.Statement.{statement}
 use Rattle.records.proofs.is_zero_from.Tie as tie
 
@@ -18,11 +19,16 @@ use Rattle.records.proofs.is_zero_from.Tie as tie
 abbrev ZeroBelow : List ℕ → ℕ → ℕ → Type 0
 ZeroBelow area from to = (k : ℕ) → k < to → from ≤ k → getD area k 0 ≡ 0
 
+-- they are at most so much
+abbrev AtMost : List ℕ → ℕ → ℕ → ℕ → Type 0
+AtMost area from to most = (k : ℕ) → k < to → from ≤ k → getD area k 0 ≤ most
+
 abbrev Inv-loop : tie.InvT-loop
-Inv-loop area from clean₀ i₀ clean i = (from ≤ i) × ((i ≤ length area) × Decides clean (ZeroBelow area from i))
+Inv-loop area from most₀ i₀ most i =
+    (from ≤ i) × (i ≤ length area) × AtMost area from i most × (ZeroBelow area from i → most ≡ 0)
 
 abbrev μ-loop : tie.MeasureT-loop
-μ-loop area from clean₀ i₀ clean i = length area - i
+μ-loop area from most₀ i₀ most i = length area - i
 
 rest-zero : (area : List ℕ) (from to : ℕ) → to ≡ length area → ZeroBelow area from to → drop from area ≡ zeros (length area - from)
 rest-zero area from to e all =
@@ -40,10 +46,13 @@ zero-rest area from to e rest k l h =
     ∙ getD-replicate (length area - from) (k - from) 0 0 (omega arith)
 
 loop-holds : tie.Need-loop-holds Inv-loop μ-loop
-loop-holds c = (omega arith, (omega arith, proven (λ k l h. absurd (omega arith))))
+loop-holds c = (omega arith, omega arith, λ k l h. absurd (omega arith), λ all. omega arith)
 
 shared-slice-read-if1 : tie.Need-shared-slice-read-if1 Inv-loop μ-loop
 shared-slice-read-if1 c = omega arith
+
+shared-slice-read-most : tie.Need-shared-slice-read-most Inv-loop μ-loop
+shared-slice-read-most c = omega arith
 
 add-i : tie.Need-add-i Inv-loop μ-loop
 add-i c = omega arith
@@ -51,28 +60,52 @@ add-i c = omega arith
 loop-less : tie.Need-loop-less Inv-loop μ-loop
 loop-less c = omega arith
 
+-- with one byte more
+most-more : (area : List ℕ) (from i most next : ℕ) → most ≤ next → getD area i 0 ≤ next → AtMost area from i most
+    → AtMost area from (i + 1) next
+most-more area from i most next more last all =
+    below-more _ _ (λ k l h. omega (arith, all k l h)) (λ h. last)
+
 loop-again : tie.Need-loop-again Inv-loop μ-loop
 loop-again c =
-    let at-loop = c .before .before .before in (
+    let start = c .before .before .before .before .args in
+    let turn = c .before .before .before .loop in (
       omega arith,
-      (
-        omega arith,
-        ⊎-elim
-            (λ w. rw (w .1) (refuted (λ all. w .0 .taken (all (at-loop .loop .i) (omega arith) (omega arith)))))
-            (λ w.
-            rw (w .1)
-            (decides-same (λ all. below-more _ _ all (λ h. w .0 .left)) (λ all k l h. all k (omega arith) h) (at-loop .loop .inv .1 .1)))
-            (c .if1 .came),
-      ),
+      omega arith,
+      ⊎-elim
+          (λ w. rw (w .2) (most-more (start .area .now) (start .from) (turn .i) (turn .most) _ (omega (arith, w .0 .taken)) (omega arith) (turn .inv .2)))
+          (λ w. rw (w .1) (most-more (start .area .now) (start .from) (turn .i) (turn .most) _ (omega arith) (omega (arith, w .0 .left)) (turn .inv .2)))
+          (c .if1 .came),
+      λ all.
+          ⊎-elim
+          (λ w. w .2 ∙ all (turn .i) (omega arith) (omega arith))
+          (λ w. w .1 ∙ turn .inv .3 (λ k l h. all k (omega arith) h))
+          (c .if1 .came),
     )
 
 returns : tie.Need-returns Inv-loop μ-loop
 returns c =
-    let at-loop = c .before in
-    let end : at-loop .loop .i ≡ length (at-loop .before .args .area .now) = omega arith in
-    decides-same (rest-zero _ _ _ end) (zero-rest _ _ _ end) (at-loop .loop .inv .1 .1)
+    let start = c .before .before .args in
+    let turn = c .before .loop in
+    let end : turn .i ≡ length (start .area .now) = omega arith in
+    record {
+      shows =
+          λ e.
+          rest-zero (start .area .now) (start .from) (turn .i) end
+          (λ k l h. omega (arith, turn .inv .2 k l h, eqb-true (turn .most) 0 e));
+      shown = λ rest. eq-eqb (turn .most) 0 (turn .inv .3 (zero-rest _ _ _ end rest));
+    }
 
 pub is-zero-from-spec : {M : Type 1} → statement M
 is-zero-from-spec =
     tie.close
-    (tie.spec Inv-loop μ-loop loop-holds shared-slice-read-if1 add-i loop-less loop-again returns)
+    (tie.spec
+    Inv-loop
+    μ-loop
+    loop-holds
+    shared-slice-read-if1
+    shared-slice-read-most
+    add-i
+    loop-less
+    loop-again
+    returns)
