@@ -5,7 +5,7 @@ use mathlib.Core.Bool.{true, false}
 use mathlib.Core.List.{List}
 use native.Mathlib.Omega.{arith}
 use lib.Dec.{T}
-use lib.ListN.{length}
+use lib.ListN.{length, drop}
 use Rattle.model.specs.declared.Entry.{Entry}
 use Rattle.model.specs.Stations.{unopened, opened, validPlan}
 use Rattle.model.specs.Figuring.{figuresOf}
@@ -25,12 +25,12 @@ pub record OpenedAt (area : List ℕ) (s : Standing) (es : List Entry) : Type 0 
   pub counted : s .count ≡ length es
   pub brought : s .figures ≡ figuresOf (s .plan) es
 
-module _ (area : List ℕ) (s : Standing) (said : s ≡ standingOf (reading area)) where
-  sound-of : (r : Reading) → reading area ≡ r → s .sound ≡ standingOf r .sound
-  sound-of r e = ap (λ (x : Standing). x .sound) (said ∙ ap standingOf e)
+module _ (newest : ℕ) (area : List ℕ) (s : Standing) (said : s ≡ standingOf newest (reading area)) where
+  sound-of : (r : Reading) → reading area ≡ r → s .sound ≡ standingOf newest r .sound
+  sound-of r e = ap (λ (x : Standing). x .sound) (said ∙ ap (standingOf newest) e)
 
-  opened-of : (r : Reading) → reading area ≡ r → s .opened ≡ standingOf r .opened
-  opened-of r e = ap (λ (x : Standing). x .opened) (said ∙ ap standingOf e)
+  opened-of : (r : Reading) → reading area ≡ r → s .opened ≡ standingOf newest r .opened
+  opened-of r e = ap (λ (x : Standing). x .opened) (said ∙ ap (standingOf newest) e)
 
   pub read-unsound : s .sound ≡ false → reading area ≡ unsound
   unfolding standingOf nothingStands
@@ -58,7 +58,7 @@ module _ (area : List ℕ) (s : Standing) (said : s ≡ standingOf (reading area
       go unsound e = absurd (never-both (s .opened) is (opened-of unsound e))
       go (holds unopened) e = absurd (never-both (s .opened) is (opened-of (holds unopened) e))
       go (holds (opened p es)) e =
-          let told : s ≡ standingOf (holds (opened p es)) = said ∙ ap standingOf e in (
+          let told : s ≡ standingOf newest (holds (opened p es)) = said ∙ ap (standingOf newest) e in (
             es,
             record {
               reads = rw (ap (λ (x : Standing). x .plan) told) e;
@@ -66,6 +66,11 @@ module _ (area : List ℕ) (s : Standing) (said : s ≡ standingOf (reading area
               brought = ap (λ (x : Standing). x .figures) told ∙ rw (ap (λ (x : Standing). x .plan) told);
             },
           )
+
+  -- the figures before the newest entries
+  pub read-before : (es : List Entry) → OpenedAt area s es → s .before ≡ figuresOf (s .plan) (drop newest es)
+  unfolding standingOf
+  read-before es at = ap (λ (x : Standing). x .before) (said ∙ ap (standingOf newest) (at .reads))
 
 -- what holds of the plan, the entries and the figures of such an area
 module _ (area : List ℕ) (s : Standing) (es : List Entry) (at : OpenedAt area s es) where

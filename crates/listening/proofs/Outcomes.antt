@@ -6,7 +6,7 @@ use mathlib.Core.List.{List, [], _∷_, append-assoc}
 use native.Mathlib.Omega.{arith}
 use lib.Dec.{T}
 use borrow.Author.Tests.{ne-eqb}
-use lib.ListN.{length}
+use lib.ListN.{length, drop}
 use Rattle.little.specs.Little.{written}
 use Rattle.model.specs.declared.Plan.{Plan}
 use Rattle.model.specs.declared.Entry.{Entry}
@@ -18,9 +18,6 @@ use Rattle.model.specs.declared.Answer.{Answer}
 use Rattle.model.specs.Sizes.{recordLength, mostRecords}
 use Rattle.records.specs.declared.Record.{Record}
 use Rattle.records.specs.Records.{recordIn, recordAt}
-use Rattle.replaying.specs.declared.Entered.{Entered}
-use Rattle.replaying.specs.Replaying.{recordsIn, figuresTo, standTo, Replayed}
-use Rattle.replaying.proofs.Parts.{sound-parts}
 use Rattle.model.specs.Stations.{Station, unopened, opened, validPlan, isContinuous}
 use Rattle.model.specs.Figuring.{sampleAsked, stepped, started, figuresOf}
 use Rattle.model.specs.Calls.{
@@ -181,37 +178,21 @@ newest-record p e es room =
     (records-in p (e ∷ es) (omega arith), append-assoc (recordsOf es) (recordOf e) rest, part-record e es rest)
     (kind-read e)
 
-module _ (area : List ℕ) (s : Standing) (e : Entry) (es : List Entry) (at : OpenedAt area s (e ∷ es)) where
-  figures-before : (before : Entered) → Replayed (s .plan) area (length es) before → before .figures ≡ figuresOf (s .plan) es
-  unfolding standTo figuresTo entriesIn
-  figures-before before replayed =
-      let parts = sound-parts (s .plan) (e ∷ es) area (at .reads) in
-      let stand = both-true (standTo (s .plan) area (length es)) _ (parts .stand) .0 in
-      let older : entriesIn (s .plan) (recordsIn area) (length es) ≡ es = cc (parts .entries) in
-      replayed .figuresAfter (replayed .allStand ∙ stand) ∙ ap (figuresOf (s .plan)) older
-
-  pub taken-back : (last : ℕ) (taken : Record) (before : Entered) (r : Answer) (after : List ℕ) → last ≡ length es
-      → taken ≡ recordIn (recordAt area last) → Replayed (s .plan) area last before
-      → r ≡ gives (taken .kind) 0 0 → after ≡ rewritten last (zeros recordLength) last (before .figures) area
-      → leaves r after ≡ onArea area Back
-  unfolding refusalOf refusals firstOf answerOf changed newestKind withoutNewest
-  taken-back last taken before r after ended read replayed given left =
-      let room : length es < 128 = omega (arith, read-count area s (e ∷ es) at, at .counted) in
-      let told : taken .kind ≡ kindOf e =
-      ap (λ (x : Record). x .kind) read ∙ rw (ended, read-area area s (e ∷ es) at) (newest-record (s .plan) e es room) in
-      let figures = figures-before before (rw ended at replayed) in
-      by-call area Back r (opened (s .plan) (e ∷ es)) after (at .reads) (rw (ne-eqb (suc (length es)) 0 (λ z. omega arith)))
-      (given ∙ ap (λ (k : ℕ). gives k 0 0) told)
-      (left ∙ rw (ended, figures, read-area area s (e ∷ es) at) (taken-area (s .plan) e es room))
-
-pub back-taken : (area : List ℕ) (s : Standing) (es : List Entry) → OpenedAt area s es
-    → (last : ℕ) (taken : Record) (before : Entered) (r : Answer) (after : List ℕ) → (s .count ≡ 0 → ⊥) → last ≡ s .count - 1
-    → taken ≡ recordIn (recordAt area last) → Replayed (s .plan) area last before
-    → r ≡ gives (taken .kind) 0 0 → after ≡ rewritten last (zeros recordLength) last (before .figures) area
+pub back-taken : (area : List ℕ) (s : Standing) (es : List Entry) → OpenedAt area s es → s .before ≡ figuresOf (s .plan) (drop 1 es)
+    → (last : ℕ) (taken : Record) (r : Answer) (after : List ℕ) → (s .count ≡ 0 → ⊥) → last ≡ s .count - 1
+    → taken ≡ recordIn (recordAt area last)
+    → r ≡ gives (taken .kind) 0 0 → after ≡ rewritten last (zeros recordLength) last (s .before) area
     → leaves r after ≡ onArea area Back
-back-taken area s [] at last taken before r after some ended read replayed given left = absurd (some (at .counted))
-back-taken area s (e ∷ es) at last taken before r after some ended read replayed given left =
-    taken-back area s e es at last taken before r after (omega (arith, at .counted)) read replayed given left
+unfolding refusalOf refusals firstOf answerOf changed newestKind withoutNewest
+back-taken area s [] at older last taken r after some ended read given left = absurd (some (at .counted))
+back-taken area s (e ∷ es) at older last taken r after some ended read given left =
+    let ends : last ≡ length es = omega (arith, at .counted) in
+    let room : length es < 128 = omega (arith, read-count area s (e ∷ es) at, at .counted) in
+    let told : taken .kind ≡ kindOf e =
+    ap (λ (x : Record). x .kind) read ∙ rw (ends, read-area area s (e ∷ es) at) (newest-record (s .plan) e es room) in
+    by-call area Back r (opened (s .plan) (e ∷ es)) after (at .reads) (rw (ne-eqb (suc (length es)) 0 (λ z. omega arith)))
+    (given ∙ ap (λ (k : ℕ). gives k 0 0) told)
+    (left ∙ rw (ends, older, read-area area s (e ∷ es) at) (taken-area (s .plan) e es room))
 
 -- the flag of an accepted entry is a byte
 pub flag-fits : (p : Plan) (f : Figures) (n : ℕ) (e : Entry) → firstOf (entryRefusals p f n e) ≡ 0 → FlagFits e

@@ -33,22 +33,28 @@ count-written : (p : Plan) (m n : ℕ) (z : List ℕ) → written 2 (bytes 2 n) 
 unfolding written planBytes bytes
 count-written p m n z = refl
 
--- record x behind the records s becomes r, the count m becomes n, and the figures f become g
-pub rewritten-area : (p : Plan) (i m n : ℕ) (f g : Figures) (s x r z : List ℕ)
-    → length s ≡ recordLength * i → length x ≡ recordLength → length r ≡ recordLength
-    → rewritten i r n g (planBytes p m ++ (figureBytes f ++ (s ++ (x ++ z)))) ≡ planBytes p n ++ (figureBytes g ++ (s ++ (r ++ z)))
-unfolding rewritten
-rewritten-area p i m n f g s x r z ls lx lr =
-    let front : List ℕ = planBytes p m ++ (figureBytes f ++ s) in
-    let before : length front ≡ headerLength + recordLength * i =
-    simp (length-append, length-plan-bytes, length-figure-bytes) (omega arith) in
-    let recorded = written-at _ front x z r before (lx ∙ sym lr) in
-    let same : length (figureBytes f) ≡ length (figureBytes g) = length-figure-bytes f ∙ sym (length-figure-bytes g) in
-    let figured = written-at 16 (planBytes p n) (figureBytes f) (s ++ (r ++ z)) (figureBytes g) (length-plan-bytes p n) same in
-    rw (simp append-assoc at recorded, count-written p m n, figured)
+module _ (p : Plan) (i m : ℕ) (f : Figures) (s x r z : List ℕ)
+    (ls : length s ≡ recordLength * i) (lx : length x ≡ recordLength) (lr : length r ≡ recordLength) where
+  -- record x behind the records s becomes r
+  pub recorded : written (headerLength + recordLength * i) r (planBytes p m ++ (figureBytes f ++ (s ++ (x ++ z))))
+      ≡ planBytes p m ++ (figureBytes f ++ (s ++ (r ++ z)))
+  recorded =
+      let front : List ℕ = planBytes p m ++ (figureBytes f ++ s) in
+      let before : length front ≡ headerLength + recordLength * i =
+      simp (length-append, length-plan-bytes, length-figure-bytes) (omega arith) in
+      simp append-assoc at (written-at _ front x z r before (lx ∙ sym lr))
+
+  -- the count m becomes n too, and the figures f become g
+  pub rewritten-area : (n : ℕ) (g : Figures)
+      → rewritten i r n g (planBytes p m ++ (figureBytes f ++ (s ++ (x ++ z)))) ≡ planBytes p n ++ (figureBytes g ++ (s ++ (r ++ z)))
+  unfolding rewritten
+  rewritten-area n g =
+      let same : length (figureBytes f) ≡ length (figureBytes g) = length-figure-bytes f ∙ sym (length-figure-bytes g) in
+      let figured = written-at 16 (planBytes p n) (figureBytes f) (s ++ (r ++ z)) (figureBytes g) (length-plan-bytes p n) same in
+      rw (recorded, count-written p m n, figured)
 
 -- what is unused behind n records
-abbrev unused : ℕ → List ℕ
+abbrev pub unused : ℕ → List ℕ
 unused n = zeros (recordLength * (mostRecords - n))
 
 module _ (p : Plan) (e : Entry) (es : List Entry) (room : length es < mostRecords) where
@@ -72,14 +78,21 @@ module _ (p : Plan) (e : Entry) (es : List Entry) (room : length es < mostRecord
       ≡ areaOf (opened p (e ∷ es))
   entered-area =
       rw (area-before, area-after, add-one)
-      (rewritten-area p _ _ _ _ _ (recordsOf es) (zeros recordLength) (recordOf e) _ (length-records es) refl (length-record e))
+      (rewritten-area p _ _ _ (recordsOf es) (zeros recordLength) (recordOf e) _ (length-records es) refl (length-record e) _ _)
+
+  -- its record alone
+  pub recorded-area : written (headerLength + recordLength * length es) (recordOf e) (areaOf (opened p es))
+      ≡ planBytes p (length es) ++ (figureBytes (figuresOf p es) ++ (recordsOf es ++ (recordOf e ++ unused (suc (length es)))))
+  recorded-area =
+      rw area-before
+      (recorded p _ _ _ (recordsOf es) (zeros recordLength) (recordOf e) _ (length-records es) refl (length-record e))
 
   -- the newest entry less
   pub taken-area : rewritten (length es) (zeros recordLength) (length es) (figuresOf p es) (areaOf (opened p (e ∷ es)))
       ≡ areaOf (opened p es)
   taken-area =
       rw (area-before, area-after)
-      (rewritten-area p _ _ _ _ _ (recordsOf es) (recordOf e) (zeros recordLength) _ (length-records es) (length-record e) refl)
+      (rewritten-area p _ _ _ (recordsOf es) (recordOf e) (zeros recordLength) _ (length-records es) (length-record e) refl _ _)
 
 -- ---- a stream is opened
 

@@ -2,21 +2,24 @@
 ghost use mathlib.Core.Path.{_≡_};
 ghost use Prim.Native.Nat.{_+_, _*_, _<_, _≤_};
 ghost use lib.ListN.{length};
-ghost use Rattle.little.specs.Little.{written};
+ghost use lib.Dec.{T};
+ghost use Rattle.little.specs.Little.{bytes, written};
 ghost use Rattle.model.specs.declared.Call.the-variants.{Open, Enter, Back, Ask, Read};
 ghost use Rattle.model.specs.Sizes.{areaLength, recordLength, headerLength};
-ghost use Rattle.model.specs.Area.{zeros, recordOf, onArea};
-ghost use Rattle.listening.specs.Written.{rewritten, FlagFits};
+ghost use Rattle.model.specs.Stations.{entryArguments, allWords};
+ghost use Rattle.model.specs.Figuring.{stepped};
+ghost use Rattle.model.specs.Area.{zeros, figureBytes, recordOf, onArea};
+ghost use Rattle.listening.specs.Written.{rewritten, FlagFits, Takes};
 use model::Answer;
 use model::Call;
 use model::Entry;
 use model::Figures;
 use model::Plan;
+use replay::Standing;
 use rules::answering;
 use rules::asking;
 use rules::plan;
 use rules::refusing;
-use rules::stepping;
 
 // Makes a call on an area.
 pub fn make(area: &mut [u8], call: Call) -> Answer
@@ -37,7 +40,7 @@ fn open(area: &mut [u8], plan: Plan) -> Answer
     requires { ⌜ length (now area) ≡ areaLength ⌝ }
     ensures { λ r. ⌜ record { answer = r; area = now (area .exit) } ≡ onArea (now (area .entry)) (Open plan) ⌝ }
 {
-    let standing = replay::read(area);
+    let standing = replay::read(area, 0);
     if !standing.sound {
         return answering::refused(3);
     }
@@ -57,7 +60,7 @@ fn enter(area: &mut [u8], entry: Entry) -> Answer
     requires { ⌜ length (now area) ≡ areaLength ⌝ }
     ensures { λ r. ⌜ record { answer = r; area = now (area .exit) } ≡ onArea (now (area .entry)) (Enter entry) ⌝ }
 {
-    let standing = replay::read(area);
+    let standing = replay::read(area, 0);
     if !standing.sound {
         return answering::refused(3);
     }
@@ -71,8 +74,7 @@ fn enter(area: &mut [u8], entry: Entry) -> Answer
     if refusal != 0 {
         return answering::refused(refusal);
     }
-    let after = stepping::entry(plan, figures, count, entry);
-    put_entry(area, count, after, entry);
+    let after = put_entry(area, standing, entry);
     answering::entry(plan, figures, after, count, entry)
 }
 
@@ -81,7 +83,7 @@ fn take_back(area: &mut [u8]) -> Answer
     requires { ⌜ length (now area) ≡ areaLength ⌝ }
     ensures { λ r. ⌜ record { answer = r; area = now (area .exit) } ≡ onArea (now (area .entry)) Back ⌝ }
 {
-    let standing = replay::read(area);
+    let standing = replay::read(area, 1);
     if !standing.sound {
         return answering::refused(3);
     }
@@ -93,9 +95,7 @@ fn take_back(area: &mut [u8]) -> Answer
     }
     let last = standing.count - 1;
     let taken = records::get_record(area, last);
-    let before = replay::replay(area, standing.plan, last);
-    let figures = before.figures;
-    clear_entry(area, last, figures);
+    clear_entry(area, last, standing.before);
     answering::gives(taken.kind as u32, 0, 0)
 }
 
@@ -104,7 +104,7 @@ pub fn ask(area: &[u8], size: u32) -> Answer
     requires { ⌜ length (now area) ≡ areaLength ⌝ }
     ensures { λ r. ⌜ record { answer = r; area = now (area .entry) } ≡ onArea (now (area .entry)) (Ask size) ⌝ }
 {
-    let standing = replay::read(area);
+    let standing = replay::read(area, 0);
     if !standing.sound {
         return answering::refused(3);
     }
@@ -125,7 +125,7 @@ pub fn read(area: &[u8]) -> Answer
     requires { ⌜ length (now area) ≡ areaLength ⌝ }
     ensures { λ r. ⌜ record { answer = r; area = now (area .entry) } ≡ onArea (now (area .entry)) Read ⌝ }
 {
-    let standing = replay::read(area);
+    let standing = replay::read(area, 0);
     if !standing.sound {
         return answering::refused(3);
     }
@@ -141,14 +141,17 @@ pub fn read(area: &[u8]) -> Answer
     )
 }
 
-// Writes an entry as the next record, with the figures after it.
-fn put_entry(area: &mut [u8], count: usize, figures: Figures, entry: Entry)
-    requires { ⌜ (length (now area) ≡ areaLength) × (count < 128) × FlagFits entry ⌝ }
-    ensures { λ _. ⌜ now (area .exit) ≡ rewritten count (recordOf entry) (count + 1) figures (now (area .entry)) ⌝ }
+// Writes an accepted entry as the next record, replays it as any other, and writes the figures after it.
+fn put_entry(area: &mut [u8], standing: Standing, entry: Entry) -> Figures
+    requires { ⌜ (length (now area) ≡ areaLength) × Takes (now area) standing entry ⌝ }
+    ensures { λ r. ⌜ (r ≡ stepped (standing .plan) entry (standing .figures)) × (now (area .exit) ≡ rewritten (standing .count) (recordOf entry) (standing .count + 1) r (now (area .entry))) ⌝ }
 {
+    let count = standing.count;
     put_record_of(area, count, entry);
-    records::put_count(area, count + 1);
-    records::put_figures(area, figures);
+    let entered = replay::replay(area, standing.plan, standing.figures, count, count + 1);
+    let after = entered.figures;
+    put_standing(area, count + 1, after);
+    after
 }
 
 // Clears the last record, and writes the figures before it.
@@ -157,14 +160,23 @@ fn clear_entry(area: &mut [u8], last: usize, figures: Figures)
     ensures { λ _. ⌜ now (area .exit) ≡ rewritten last (zeros recordLength) last figures (now (area .entry)) ⌝ }
 {
     records::clear_record(area, last);
-    records::put_count(area, last);
+    put_standing(area, last, figures);
+}
+
+// Writes the count of standing records, and the figures after them.
+fn put_standing(area: &mut [u8], count: usize, figures: Figures)
+    requires { ⌜ (length (now area) ≡ areaLength) × (count ≤ 128) ⌝ }
+    ensures { λ _. ⌜ now (area .exit) ≡ written 16 (figureBytes figures) (written 2 (bytes 2 count) (now (area .entry))) ⌝ }
+{
+    records::put_count(area, count);
     records::put_figures(area, figures);
 }
 
-// The record writer: an entry's record in the part of the store that is lent.
+// The record writer: an entry's record in the part of the store that is lent. Its arguments are 32-bit numbers, so that it is read
+// back.
 fn put_record_of(area: &mut [u8], i: usize, entry: Entry)
     requires { ⌜ (length (now area) ≡ areaLength) × (i < 128) × FlagFits entry ⌝ }
-    ensures { λ _. ⌜ now (area .exit) ≡ written (headerLength + recordLength * i) (recordOf entry) (now (area .entry)) ⌝ }
+    ensures { λ _. ⌜ (now (area .exit) ≡ written (headerLength + recordLength * i) (recordOf entry) (now (area .entry))) × T (allWords (entryArguments entry)) ⌝ }
 {
     match entry {
         Entry::Lot {

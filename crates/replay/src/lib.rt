@@ -2,37 +2,36 @@
 pub mod entering;
 
 ghost use mathlib.Core.Path.{_≡_};
-ghost use Prim.Native.Nat.{_≤_};
-ghost use lib.Dec.{T};
+ghost use Prim.Native.Nat.{_-_};
 ghost use lib.ListN.{length};
 ghost use Rattle.model.specs.Sizes.{areaLength};
-ghost use Rattle.model.specs.Stations.{validPlan};
 ghost use Rattle.model.specs.Area.{reading};
-ghost use Rattle.replaying.specs.Replaying.{Replayed};
-ghost use Rattle.replay.specs.Standing.{nothingStands, standingOf};
+ghost use Rattle.replaying.specs.Replaying.{Ready, Replayed};
+ghost use Rattle.replay.specs.Standing.{nothingStands, standingOf, Headed};
 use model::Figures;
 use model::Plan;
 use replaying::Entered;
 use rules::plan;
 
-// What an area says: whether it is sound, whether the stream is opened, and if so with which plan, how many records stand, and the
-// figures after them.
+// What an area says: whether it is sound, whether the stream is opened, and if so with which plan, how many records stand, the
+// figures after them, and the figures before the newest of them.
 pub struct Standing {
     pub sound: bool,
     pub opened: bool,
     pub plan: Plan,
     pub count: usize,
     pub figures: Figures,
+    pub before: Figures,
 }
 
-// The figures after the first records of an area, and whether each of these could stand.
-pub fn replay(area: &[u8], plan: Plan, count: usize) -> Entered
-    requires { ⌜ (length (now area) ≡ areaLength) × T (validPlan plan) × (count ≤ 128) ⌝ }
-    ensures { λ r. ⌜ Replayed plan (now (area .entry)) count r ⌝ }
+// The figures after more of an area's records, and whether each of these could stand.
+pub fn replay(area: &[u8], plan: Plan, figures: Figures, from: usize, to: usize) -> Entered
+    requires { ⌜ Ready plan (now area) figures from to ⌝ }
+    ensures { λ r. ⌜ Replayed plan (now (area .entry)) to r ⌝ }
 {
-    let mut figures = plan::started(plan);
-    let mut i = 0;
-    while i < count {
+    let mut figures = figures;
+    let mut i = from;
+    while i < to {
         let step = entering::enter(plan, figures, i, records::get_record(area, i));
         if !step.sound {
             return step;
@@ -46,10 +45,10 @@ pub fn replay(area: &[u8], plan: Plan, count: usize) -> Entered
     }
 }
 
-// What an area says.
-pub fn read(area: &[u8]) -> Standing
+// What an area says, with the figures before so many of its newest records.
+pub fn read(area: &[u8], newest: usize) -> Standing
     requires { ⌜ length (now area) ≡ areaLength ⌝ }
-    ensures { λ r. ⌜ r ≡ standingOf (reading (now (area .entry))) ⌝ }
+    ensures { λ r. ⌜ r ≡ standingOf newest (reading (now (area .entry))) ⌝ }
 {
     if area[0] == 0 {
         return nothing(records::is_zero_from(area, 0));
@@ -62,11 +61,26 @@ pub fn read(area: &[u8]) -> Standing
     if records::MOST_RECORDS < count {
         return nothing(false);
     }
-    let replayed = replay(area, plan, count);
-    if !replayed.sound {
+    read_records(area, plan, count, newest)
+}
+
+// What an area says whose header has a valid plan and a count that fits. The records are replayed once: those before the newest,
+// then the newest.
+fn read_records(area: &[u8], plan: Plan, count: usize, newest: usize) -> Standing
+    requires { ⌜ Headed (now area) plan count ⌝ }
+    ensures { λ r. ⌜ r ≡ standingOf newest (reading (now (area .entry))) ⌝ }
+{
+    let first = without(count, newest);
+    let older = replay(area, plan, plan::started(plan), 0, first);
+    if !older.sound {
         return nothing(false);
     }
-    let figures = replayed.figures;
+    let before = older.figures;
+    let all = replay(area, plan, before, first, count);
+    if !all.sound {
+        return nothing(false);
+    }
+    let figures = all.figures;
     if !records::has_figures(area, figures) {
         return nothing(false);
     }
@@ -82,7 +96,18 @@ pub fn read(area: &[u8]) -> Standing
         plan,
         count,
         figures,
+        before,
     }
+}
+
+// How many records stand before the newest.
+fn without(count: usize, newest: usize) -> usize
+    ensures { λ r. ⌜ r ≡ count - newest ⌝ }
+{
+    if count < newest {
+        return 0;
+    }
+    count - newest
 }
 
 // An area that has no plan and no figures to tell of.
@@ -95,11 +120,13 @@ fn nothing(sound: bool) -> Standing
         a: 0,
         b: 0,
     };
+    let figures = plan::started(plan);
     Standing {
         sound,
         opened: false,
         plan,
         count: 0,
-        figures: plan::started(plan),
+        figures,
+        before: figures,
     }
 }

@@ -231,7 +231,7 @@ entry-stands p f i e h t = rw (formed-of e, entry-of-record p f i e h t, h)
 
 module _ (p : Plan) (es : List Entry) (area rest : List ℕ) (records : recordsIn area ≡ recordsOf es ++ rest) where
   -- the figures after those records
-  figures-of-records : T (admissible p es) → figuresTo p area (length es) ≡ figuresOf p es
+  pub figures-of-records : T (admissible p es) → figuresTo p area (length es) ≡ figuresOf p es
   unfolding figuresTo
   figures-of-records t = rw (records, entries-read p es rest t)
 
@@ -242,7 +242,7 @@ module _ (p : Plan) (es : List Entry) (area rest : List ℕ) (records : recordsI
       rw (records, drop-at (recordsOf es) rest _ (length-records es), next) (take-at (recordOf e) rest′ _ (length-record e))
 
 -- records of entries that calls could have left stand
-stand-of : (p : Plan) (es : List Entry) (area rest : List ℕ) → recordsIn area ≡ recordsOf es ++ rest → T (admissible p es)
+pub stand-of : (p : Plan) (es : List Entry) (area rest : List ℕ) → recordsIn area ≡ recordsOf es ++ rest → T (admissible p es)
     → standTo p area (length es) ≡ true
 unfolding standTo recordsOf
 stand-of p [] area rest e t = refl

@@ -123,11 +123,11 @@ entry-of-record p f i e h t = sym (entry-in p f (recordOf e)) ∙ entry-read p f
 
 -- ---- the arguments
 
-word : (n : ℕ) (ns : List ℕ) → n < 2 ^ 32 → T (allWords ns) → T (allWords (n ∷ ns))
+pub word : (n : ℕ) (ns : List ℕ) → n < 2 ^ 32 → T (allWords ns) → T (allWords (n ∷ ns))
 unfolding allWords
 word n ns h t = both (ltb n (2 ^ 32)) (allWords ns) (of-holds _ (lt-ltb n (2 ^ 32) h)) t
 
-no-words : T (allWords [])
+pub no-words : T (allWords [])
 unfolding allWords
 no-words = tt
 

@@ -20,7 +20,7 @@ returns c =
     let area = c .before .before .before .before .before .args .area .now in
     let s = c .before .before .before .read .result in
     let said = c .before .before .before .read .ensures in
-    by-unsound _ _ _ (read-unsound area s said (not-true (s .sound) (c .before .if1 .taken))) (c .refused .ensures)
+    by-unsound _ _ _ (read-unsound 0 area s said (not-true (s .sound) (c .before .if1 .taken))) (c .refused .ensures)
 
 refused-requires-2 : tie.Need-refused-requires-2
 refused-requires-2 c κs = search needs
@@ -31,7 +31,7 @@ returns-2 c =
     let area = c .before .before .before .before .before .before .before .args .area .now in
     let s = c .before .before .before .before .before .read .result in
     let said = c .before .before .before .before .before .read .ensures in
-    by-unopened _ _ _ refl (read-unopened area s said (not-false (s .sound) (c .before .before .before .if1 .left)) (not-true (s .opened) (c .before .if2 .taken))) (c .refused2 .ensures)
+    by-unopened _ _ _ refl (read-unopened 0 area s said (not-false (s .sound) (c .before .before .before .if1 .left)) (not-true (s .opened) (c .before .if2 .taken))) (c .refused2 .ensures)
 
 ask-requires : tie.Need-ask-requires
 ask-requires c κs = search needs
@@ -44,7 +44,7 @@ returns-3 c =
     let area = c .before .before .before .before .before .before .before .before .before .before .before .args .area .now in
     let s = c .before .before .before .before .before .before .before .before .before .read .result in
     let said = c .before .before .before .before .before .before .before .before .before .read .ensures in
-    let at = read-opened area s said (not-false (s .opened) (c .before .before .before .before .before .if2 .left)) in
+    let at = read-opened 0 area s said (not-false (s .opened) (c .before .before .before .before .before .if2 .left)) in
     ask-refused area s (at .0) (at .1) _ (c .before .before .before .before .before .before .before .before .before .before .before .args .size) (c .before .before .ask .result) (c .before .before .ask .ensures) (c .before .if3 .taken) (c .refused3 .ensures)
 
 sample-requires : tie.Need-sample-requires
@@ -52,7 +52,7 @@ sample-requires c κs =
     let area = c .before .before .before .before .before .before .before .before .before .before .args .area .now in
     let s = c .before .before .before .before .before .before .before .before .read .result in
     let said = c .before .before .before .before .before .before .before .before .read .ensures in
-    let at = read-opened area s said (not-false (s .opened) (c .before .before .before .before .if2 .left)) in
+    let at = read-opened 0 area s said (not-false (s .opened) (c .before .before .before .before .if2 .left)) in
     let allowed = allowed-ask (s .plan) (s .figures) (c .before .before .before .before .before .before .before .before .before .before .args .size) (sym (c .before .ask .ensures) ∙ c .if3 .left) in
     let within = read-figures area s (at .0) (at .1) in
     (read-plan area s (at .0) (at .1), allowed .0, omega (arith, read-count area s (at .0) (at .1)), allowed .1, allowed .2)
@@ -65,7 +65,7 @@ returns-4 c =
     let area = c .before .before .before .before .before .before .before .before .before .before .before .before .args .area .now in
     let s = c .before .before .before .before .before .before .before .before .before .before .read .result in
     let said = c .before .before .before .before .before .before .before .before .before .before .read .ensures in
-    let at = read-opened area s said (not-false (s .opened) (c .before .before .before .before .before .before .if2 .left)) in
+    let at = read-opened 0 area s said (not-false (s .opened) (c .before .before .before .before .before .before .if2 .left)) in
     asked area s (at .0) (at .1) _ (c .before .before .before .before .before .before .before .before .before .before .before .before .args .size) (c .before .before .before .ask .result) (c .before .before .before .ask .ensures) (c .before .before .if3 .left) (c .gives .ensures ∙ ap (λ (n : ℕ). gives n 0 0) (c .before .sample .ensures .0))
 
 pub ask-spec : {M : Type 1} → statement M

@@ -6,11 +6,8 @@ use Rattle.listening.proofs.area.clear_entry.Tie as tie
 clear-record-requires : tie.Need-clear-record-requires
 clear-record-requires c κs = search needs
 
-put-count-requires : tie.Need-put-count-requires
-put-count-requires c κs = search needs
-
-put-figures-requires : tie.Need-put-figures-requires
-put-figures-requires c κs = search needs
+put-standing-requires : tie.Need-put-standing-requires
+put-standing-requires c κs = search needs
 
 same-length : tie.Need-same-length
 same-length c = search needs
@@ -21,5 +18,4 @@ returns c = cc
 
 pub clear-entry-spec : {M : Type 1} → statement M
 clear-entry-spec =
-    tie.close
-    (tie.spec clear-record-requires put-count-requires put-figures-requires same-length returns)
+    tie.close (tie.spec clear-record-requires put-standing-requires same-length returns)

@@ -23,7 +23,7 @@ returns c =
     let area = c .before .before .before .before .before .before .args .area .now in
     let s = c .before .before .before .read .result in
     let said = c .before .before .before .read .ensures in
-    by-unsound _ _ _ (read-unsound area s said (not-true (s .sound) (c .before .if1 .taken))) (c .refused .ensures)
+    by-unsound _ _ _ (read-unsound 0 area s said (not-true (s .sound) (c .before .if1 .taken))) (c .refused .ensures)
 
 refused-requires-2 : tie.Need-refused-requires-2
 refused-requires-2 c κs = search needs
@@ -36,7 +36,7 @@ returns-2 c =
     let area = c .before .before .before .before .before .before .before .args .area .now in
     let s = c .before .before .before .before .read .result in
     let said = c .before .before .before .before .read .ensures in
-    let at = read-opened area s said (c .before .if2 .taken) in
+    let at = read-opened 0 area s said (c .before .if2 .taken) in
     open-again area s (at .0) (at .1) _ _ (c .refused2 .ensures)
 
 is-valid-requires : tie.Need-is-valid-requires
@@ -53,7 +53,7 @@ returns-3 c =
     let area = c .before .before .before .before .before .before .before .before .before .args .area .now in
     let s = c .before .before .before .before .before .before .read .result in
     let said = c .before .before .before .before .before .before .read .ensures in
-    open-invalid area (c .before .before .before .before .before .before .before .before .before .args .plan) _ (c .before .before .is-valid .result) (read-unopened area s said (not-false (s .sound) (c .before .before .before .before .if1 .left)) (c .before .before .before .if2 .left)) (c .before .before .is-valid .ensures) (not-true (c .before .before .is-valid .result) (c .before .if3 .taken)) (c .refused3 .ensures)
+    open-invalid area (c .before .before .before .before .before .before .before .before .before .args .plan) _ (c .before .before .is-valid .result) (read-unopened 0 area s said (not-false (s .sound) (c .before .before .before .before .if1 .left)) (c .before .before .before .if2 .left)) (c .before .before .is-valid .ensures) (not-true (c .before .before .is-valid .result) (c .before .if3 .taken)) (c .refused3 .ensures)
 
 put-plan-requires : tie.Need-put-plan-requires
 put-plan-requires c κs = let range = plan-range (c .before .before .before .before .before .before .before .before .before .args .plan) (of-holds _ (sym (c .before .before .is-valid .ensures) ∙ not-false (c .before .before .is-valid .result) (c .before .if3 .left))) in (c .before .before .before .before .before .before .before .before .before .pre, omega arith, omega arith, omega arith)
@@ -75,7 +75,7 @@ returns-4 c =
     let area = c .before .before .before .before .before .before .before .before .before .before .before .before .before .before .before .before .before .before .args .area .now in
     let s = c .before .before .before .before .before .before .before .before .before .before .before .before .before .before .before .read .result in
     let said = c .before .before .before .before .before .before .before .before .before .before .before .before .before .before .before .read .ensures in
-    open-made area (c .before .before .before .before .before .before .before .before .before .before .before .before .before .before .before .before .before .before .args .plan) _ _ (read-unopened area s said (not-false (s .sound) (c .before .before .before .before .before .before .before .before .before .before .before .before .before .if1 .left)) (c .before .before .before .before .before .before .before .before .before .before .before .before .if2 .left)) (of-holds _ (sym (c .before .before .before .before .before .before .before .before .before .before .before .is-valid .ensures) ∙ not-false (c .before .before .before .before .before .before .before .before .before .before .before .is-valid .result) (c .before .before .before .before .before .before .before .before .before .before .if3 .left))) (c .gives .ensures) (cc)
+    open-made area (c .before .before .before .before .before .before .before .before .before .before .before .before .before .before .before .before .before .before .args .plan) _ _ (read-unopened 0 area s said (not-false (s .sound) (c .before .before .before .before .before .before .before .before .before .before .before .before .before .if1 .left)) (c .before .before .before .before .before .before .before .before .before .before .before .before .if2 .left)) (of-holds _ (sym (c .before .before .before .before .before .before .before .before .before .before .before .is-valid .ensures) ∙ not-false (c .before .before .before .before .before .before .before .before .before .before .before .is-valid .result) (c .before .before .before .before .before .before .before .before .before .before .if3 .left))) (c .gives .ensures) (cc)
 
 pub open-spec : {M : Type 1} → statement M
 open-spec =

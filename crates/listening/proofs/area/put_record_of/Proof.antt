@@ -5,7 +5,9 @@ use Prim.Native.Nat.{_+_, _*_}
 use mathlib.Core.Path.{sym, ap, _∙_}
 use native.Mathlib.Omega.{arith}
 use Rattle.listening.specs.Written.{flagOf}
+use Rattle.model.specs.Stations.{entryArguments}
 use Rattle.model.specs.Area.{recordOf}
+use Rattle.replaying.proofs.RecordForm.{word, no-words}
 use borrow.Author.Needs.{needs}
 use Rattle.listening.proofs.area.put_record_of.Statement.{statement}
 use Rattle.listening.proofs.area.put_record_of.Tie as tie
@@ -50,37 +52,45 @@ same-length : tie.Need-same-length
 same-length c = search needs
 
 returns : tie.Need-returns
-unfolding recordOf
-returns c =
-    c .before .before .put-record .ensures
-    ∙ ap (λ (e : Entry). written (headerLength + recordLength * c .before .before .before .before .before .before .before .before .args .i) (recordOf e) (c .before .before .before .before .before .before .before .before .args .area .now)) (sym (c .before .before .before .before .before .entry .given .1))
+unfolding recordOf entryArguments
+returns c = (
+  c .before .before .put-record .ensures
+      ∙ ap (λ (e : Entry). written (headerLength + recordLength * c .before .before .before .before .before .before .before .before .args .i) (recordOf e) (c .before .before .before .before .before .before .before .before .args .area .now)) (sym (c .before .before .before .before .before .entry .given .1)),
+  rw (c .before .before .before .before .before .entry .given .1) (word _ _ (omega arith) (word _ _ (omega arith) (word _ _ (omega arith) (word _ _ (omega arith) (word _ _ (omega arith) no-words))))),
+)
 
 same-length-2 : tie.Need-same-length-2
 same-length-2 c = search needs
 
 returns-2 : tie.Need-returns-2
-unfolding recordOf
-returns-2 c =
-    c .before .before .put-record2 .ensures
-    ∙ ap (λ (e : Entry). written (headerLength + recordLength * c .before .before .before .before .before .before .before .before .args .i) (recordOf e) (c .before .before .before .before .before .before .before .before .args .area .now)) (sym (c .before .before .before .before .before .entry2 .given .1))
+unfolding recordOf entryArguments
+returns-2 c = (
+  c .before .before .put-record2 .ensures
+      ∙ ap (λ (e : Entry). written (headerLength + recordLength * c .before .before .before .before .before .before .before .before .args .i) (recordOf e) (c .before .before .before .before .before .before .before .before .args .area .now)) (sym (c .before .before .before .before .before .entry2 .given .1)),
+  rw (c .before .before .before .before .before .entry2 .given .1) (word _ _ (omega arith) (word _ _ (omega arith) no-words)),
+)
 
 same-length-3 : tie.Need-same-length-3
 same-length-3 c = search needs
 
 returns-3 : tie.Need-returns-3
-unfolding recordOf
-returns-3 c =
-    c .before .before .put-record3 .ensures
-    ∙ ap (λ (e : Entry). written (headerLength + recordLength * c .before .before .before .before .before .before .before .before .args .i) (recordOf e) (c .before .before .before .before .before .before .before .before .args .area .now)) (sym (c .before .before .before .before .before .entry3 .given .1))
+unfolding recordOf entryArguments
+returns-3 c = (
+  c .before .before .put-record3 .ensures
+      ∙ ap (λ (e : Entry). written (headerLength + recordLength * c .before .before .before .before .before .before .before .before .args .i) (recordOf e) (c .before .before .before .before .before .before .before .before .args .area .now)) (sym (c .before .before .before .before .before .entry3 .given .1)),
+  rw (c .before .before .before .before .before .entry3 .given .1) (word _ _ (omega arith) (word _ _ (omega arith) no-words)),
+)
 
 same-length-4 : tie.Need-same-length-4
 same-length-4 c = search needs
 
 returns-4 : tie.Need-returns-4
-unfolding recordOf
-returns-4 c =
-    c .before .before .put-record4 .ensures
-    ∙ ap (λ (e : Entry). written (headerLength + recordLength * c .before .before .before .before .before .before .before .before .args .i) (recordOf e) (c .before .before .before .before .before .before .before .before .args .area .now)) (sym (c .before .before .before .before .before .entry4 .given .1))
+unfolding recordOf entryArguments
+returns-4 c = (
+  c .before .before .put-record4 .ensures
+      ∙ ap (λ (e : Entry). written (headerLength + recordLength * c .before .before .before .before .before .before .before .before .args .i) (recordOf e) (c .before .before .before .before .before .before .before .before .args .area .now)) (sym (c .before .before .before .before .before .entry4 .given .1)),
+  rw (c .before .before .before .before .before .entry4 .given .1) (word _ _ (omega arith) (word _ _ (omega arith) no-words)),
+)
 
 pub put-record-of-spec : {M : Type 1} → statement M
 put-record-of-spec =

@@ -20,7 +20,7 @@ returns c =
     let area = c .before .before .before .before .before .args .area .now in
     let s = c .before .before .before .read .result in
     let said = c .before .before .before .read .ensures in
-    by-unsound _ _ _ (read-unsound area s said (not-true (s .sound) (c .before .if1 .taken))) (c .refused .ensures)
+    by-unsound _ _ _ (read-unsound 0 area s said (not-true (s .sound) (c .before .if1 .taken))) (c .refused .ensures)
 
 refused-requires-2 : tie.Need-refused-requires-2
 refused-requires-2 c κs = search needs
@@ -31,14 +31,14 @@ returns-2 c =
     let area = c .before .before .before .before .before .before .before .args .area .now in
     let s = c .before .before .before .before .before .read .result in
     let said = c .before .before .before .before .before .read .ensures in
-    by-unopened _ _ _ refl (read-unopened area s said (not-false (s .sound) (c .before .before .before .if1 .left)) (not-true (s .opened) (c .before .if2 .taken))) (c .refused2 .ensures)
+    by-unopened _ _ _ refl (read-unopened 0 area s said (not-false (s .sound) (c .before .before .before .if1 .left)) (not-true (s .opened) (c .before .if2 .taken))) (c .refused2 .ensures)
 
 cast-gives : tie.Need-cast-gives
 cast-gives c =
     let area = c .before .before .before .before .before .before .before .before .before .args .area .now in
     let s = c .before .before .before .before .before .before .before .read .result in
     let said = c .before .before .before .before .before .before .before .read .ensures in
-    let at = read-opened area s said (not-false (s .opened) (c .before .before .before .if2 .left)) in
+    let at = read-opened 0 area s said (not-false (s .opened) (c .before .before .before .if2 .left)) in
     omega (arith, read-count area s (at .0) (at .1))
 
 cast-gives-2 : tie.Need-cast-gives-2
@@ -46,7 +46,7 @@ cast-gives-2 c =
     let area = c .before .before .before .before .before .before .before .before .before .before .args .area .now in
     let s = c .before .before .before .before .before .before .before .before .read .result in
     let said = c .before .before .before .before .before .before .before .before .read .ensures in
-    let at = read-opened area s said (not-false (s .opened) (c .before .before .before .before .if2 .left)) in
+    let at = read-opened 0 area s said (not-false (s .opened) (c .before .before .before .before .if2 .left)) in
     omega (arith, read-count area s (at .0) (at .1), read-figures area s (at .0) (at .1) .acceptedIn)
 
 read-figure-requires : tie.Need-read-figure-requires
@@ -60,7 +60,7 @@ returns-3 c =
     let area = c .before .before .before .before .before .before .before .before .before .before .before .before .args .area .now in
     let s = c .before .before .before .before .before .before .before .before .before .before .read .result in
     let said = c .before .before .before .before .before .before .before .before .before .before .read .ensures in
-    let at = read-opened area s said (not-false (s .opened) (c .before .before .before .before .before .before .if2 .left)) in
+    let at = read-opened 0 area s said (not-false (s .opened) (c .before .before .before .before .before .before .if2 .left)) in
     has-read area s (at .0) (at .1) _ (c .gives .ensures ∙ ap (λ (n : ℕ). gives (s .count) (s .figures .accepted) n) (c .before .read-figure .ensures))
 
 pub read-spec : {M : Type 1} → statement M

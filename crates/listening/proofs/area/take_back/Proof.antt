@@ -1,4 +1,4 @@
-use Rattle.listening.proofs.OnReading.{read-unsound, read-unopened, read-opened, read-plan, read-count}
+use Rattle.listening.proofs.OnReading.{read-unsound, read-unopened, read-opened, read-count, read-before}
 use Rattle.listening.proofs.Outcomes.{by-unsound, by-unopened, back-none, back-taken}
 use Rattle.model.specs.Calls.{refusalOf, refusals, firstOf}
 use native.Mathlib.Omega.{arith}
@@ -22,7 +22,7 @@ returns c =
     let area = c .before .before .before .before .before .before .args .area .now in
     let s = c .before .before .before .read .result in
     let said = c .before .before .before .read .ensures in
-    by-unsound _ _ _ (read-unsound area s said (not-true (s .sound) (c .before .if1 .taken))) (c .refused .ensures)
+    by-unsound _ _ _ (read-unsound 1 area s said (not-true (s .sound) (c .before .if1 .taken))) (c .refused .ensures)
 
 refused-requires-2 : tie.Need-refused-requires-2
 refused-requires-2 c κs = search needs
@@ -36,7 +36,7 @@ returns-2 c =
     let area = c .before .before .before .before .before .before .before .before .args .area .now in
     let s = c .before .before .before .before .before .read .result in
     let said = c .before .before .before .before .before .read .ensures in
-    by-unopened _ _ _ refl (read-unopened area s said (not-false (s .sound) (c .before .before .before .if1 .left)) (not-true (s .opened) (c .before .if2 .taken))) (c .refused2 .ensures)
+    by-unopened _ _ _ refl (read-unopened 1 area s said (not-false (s .sound) (c .before .before .before .if1 .left)) (not-true (s .opened) (c .before .if2 .taken))) (c .refused2 .ensures)
 
 refused-requires-3 : tie.Need-refused-requires-3
 refused-requires-3 c κs = search needs
@@ -49,7 +49,7 @@ returns-3 c =
     let area = c .before .before .before .before .before .before .before .before .before .before .args .area .now in
     let s = c .before .before .before .before .before .before .before .read .result in
     let said = c .before .before .before .before .before .before .before .read .ensures in
-    let at = read-opened area s said (not-false (s .opened) (c .before .before .before .if2 .left)) in
+    let at = read-opened 1 area s said (not-false (s .opened) (c .before .before .before .if2 .left)) in
     back-none area s (at .0) (at .1) _ (c .before .if3 .taken) (c .refused3 .ensures)
 
 sub-last : tie.Need-sub-last
@@ -60,24 +60,16 @@ get-record-requires c κs =
     let area = c .before .before .before .before .before .before .before .before .before .before .before .args .area .now in
     let s = c .before .before .before .before .before .before .before .before .read .result in
     let said = c .before .before .before .before .before .before .before .before .read .ensures in
-    let at = read-opened area s said (not-false (s .opened) (c .before .before .before .before .if2 .left)) in
+    let at = read-opened 1 area s said (not-false (s .opened) (c .before .before .before .before .if2 .left)) in
     (c .before .before .before .before .before .before .before .before .before .before .before .pre, omega (arith, read-count area s (at .0) (at .1), c .before .before .if3 .left))
-
-replay-requires : tie.Need-replay-requires
-replay-requires c κs =
-    let area = c .before .before .before .before .before .before .before .before .before .before .before .before .before .args .area .now in
-    let s = c .before .before .before .before .before .before .before .before .before .before .read .result in
-    let said = c .before .before .before .before .before .before .before .before .before .before .read .ensures in
-    let at = read-opened area s said (not-false (s .opened) (c .before .before .before .before .before .before .if2 .left)) in
-    (c .before .before .before .before .before .before .before .before .before .before .before .before .before .pre, read-plan area s (at .0) (at .1), omega (arith, read-count area s (at .0) (at .1)))
 
 clear-entry-requires : tie.Need-clear-entry-requires
 clear-entry-requires c κs =
-    let area = c .before .before .before .before .before .before .before .before .before .before .before .before .before .before .before .before .args .area .now in
-    let s = c .before .before .before .before .before .before .before .before .before .before .before .before .before .read .result in
-    let said = c .before .before .before .before .before .before .before .before .before .before .before .before .before .read .ensures in
-    let at = read-opened area s said (not-false (s .opened) (c .before .before .before .before .before .before .before .before .before .if2 .left)) in
-    (c .before .before .before .before .before .before .before .before .before .before .before .before .before .before .before .before .pre, omega (arith, read-count area s (at .0) (at .1), c .before .before .before .before .before .before .before .if3 .left))
+    let area = c .before .before .before .before .before .before .before .before .before .before .before .before .before .args .area .now in
+    let s = c .before .before .before .before .before .before .before .before .before .before .read .result in
+    let said = c .before .before .before .before .before .before .before .before .before .before .read .ensures in
+    let at = read-opened 1 area s said (not-false (s .opened) (c .before .before .before .before .before .before .if2 .left)) in
+    (c .before .before .before .before .before .before .before .before .before .before .before .before .before .pre, omega (arith, read-count area s (at .0) (at .1), c .before .before .before .before .if3 .left))
 
 cast-gives : tie.Need-cast-gives
 cast-gives c = search needs
@@ -90,11 +82,12 @@ same-length-4 c = search needs
 
 returns-4 : tie.Need-returns-4
 returns-4 c =
-    let area = c .before .before .before .before .before .before .before .before .before .before .before .before .before .before .before .before .before .before .before .before .before .args .area .now in
-    let s = c .before .before .before .before .before .before .before .before .before .before .before .before .before .before .before .before .before .before .read .result in
-    let said = c .before .before .before .before .before .before .before .before .before .before .before .before .before .before .before .before .before .before .read .ensures in
-    let at = read-opened area s said (not-false (s .opened) (c .before .before .before .before .before .before .before .before .before .before .before .before .before .before .if2 .left)) in
-    back-taken area s (at .0) (at .1) _ (c .before .before .before .before .before .before .before .before .before .get-record .result) (c .before .before .before .before .before .before .before .replay .result) _ _ (c .before .before .before .before .before .before .before .before .before .before .before .before .if3 .left) refl (c .before .before .before .before .before .before .before .before .before .get-record .ensures) (c .before .before .before .before .before .before .before .replay .ensures) (c .gives .ensures) (c .before .before .before .before .clear-entry .ensures)
+    let area = c .before .before .before .before .before .before .before .before .before .before .before .before .before .before .before .before .before .before .args .area .now in
+    let s = c .before .before .before .before .before .before .before .before .before .before .before .before .before .before .before .read .result in
+    let said = c .before .before .before .before .before .before .before .before .before .before .before .before .before .before .before .read .ensures in
+    let at = read-opened 1 area s said (not-false (s .opened) (c .before .before .before .before .before .before .before .before .before .before .before .if2 .left)) in
+    back-taken area s (at .0) (at .1) (read-before 1 area s said (at .0) (at .1)) _ (c .before .before .before .before .before .before .get-record .result) _ _
+    (c .before .before .before .before .before .before .before .before .before .if3 .left) refl (c .before .before .before .before .before .before .get-record .ensures) (c .gives .ensures) (c .before .before .before .before .clear-entry .ensures)
 
 pub take-back-spec : {M : Type 1} → statement M
 take-back-spec =
@@ -112,7 +105,6 @@ take-back-spec =
     returns-3
     sub-last
     get-record-requires
-    replay-requires
     clear-entry-requires
     cast-gives
     gives-requires

@@ -1,0 +1,185 @@
+//! Whether an implementation answers as the reference does and leaves the same bytes: on random lists of calls, and on areas that
+//! were damaged after them.
+
+use crate::Make;
+use reference::{area_bytes, call_on_store, figures, Caller, Entry, Frame, Random, Station, AREA, FULL, STORE};
+
+// Damage is done after every so many calls of a list, so many times.
+const BETWEEN_DAMAGES: usize = 20;
+const DAMAGES: usize = 6;
+
+// Arguments for each call by its number.
+const SOME_ARGUMENTS: [[u32; 5]; 9] = [
+    [0; 5],
+    [1, 0, 15_000, 0, 0],
+    [7, 100, 40, 0, 0],
+    [3, 0, 0, 0, 0],
+    [3, 1, 0, 0, 0],
+    [1, 2, 0, 0, 0],
+    [0; 5],
+    [100, 0, 0, 0, 0],
+    [0; 5],
+];
+
+/// Makes a list of random calls, and calls on damaged copies of what it leaves.
+pub fn agrees(make: Make, seed: u64, calls: usize) -> Result<(), String> {
+    let mut caller = Caller::new(seed, calls, u32::MAX);
+    let (mut ours, mut theirs) = (vec![0; STORE], vec![0; STORE]);
+    for k in 0..calls {
+        let frame = caller.next_call();
+        let expected = caller.make(&frame);
+        caller.write_area(&mut theirs, frame.stream);
+        same(make(&mut ours, &frame) == expected && ours == theirs, seed, &frame)?;
+        if k % BETWEEN_DAMAGES == 0 && frame.stream < 16 {
+            on_damaged(make, &mut caller, &ours, frame.stream).map_err(|frame| told(seed, &frame))?;
+        }
+    }
+    for length in [0, STORE - 1, STORE + 1] {
+        let frame = Frame {
+            call: 8,
+            stream: 0,
+            args: [0; 5],
+        };
+        same(make(&mut vec![0; length], &frame) == [1, 0, 0, 0], seed, &frame)?;
+    }
+    Ok(())
+}
+
+fn same(is_same: bool, seed: u64, frame: &Frame) -> Result<(), String> {
+    is_same.then_some(()).ok_or_else(|| told(seed, frame))
+}
+
+fn told(seed: u64, frame: &Frame) -> String {
+    format!("not as the reference: seed {seed}, {frame:?}")
+}
+
+// Damages the stream's area in some ways, and makes each of the calls there.
+fn on_damaged(make: Make, caller: &mut Caller, store: &[u8], stream: u32) -> Result<(), Frame> {
+    let station = caller.station(stream).expect("a stream").clone();
+    for _ in 0..DAMAGES {
+        let mut area = store[stream as usize * AREA..][..AREA].to_vec();
+        match caller.random.below(6) {
+            0 => add_stop(&mut area, station.entries.len()),
+            1 | 2 => change_byte(&mut caller.random, &mut area, station.entries.len()),
+            _ => area = area_bytes(&forged(&mut caller.random, station.clone())),
+        }
+        let mut damaged = store.to_vec();
+        damaged[stream as usize * AREA..][..AREA].copy_from_slice(&area);
+        for call in 1..=8 {
+            let mut frame = caller.call_on(stream);
+            if frame.call != call {
+                frame = Frame {
+                    call,
+                    stream,
+                    args: SOME_ARGUMENTS[call as usize],
+                };
+            }
+            let (mut ours, mut theirs) = (damaged.clone(), damaged.clone());
+            if make(&mut ours, &frame) != call_on_store(&mut theirs, &frame) || ours != theirs {
+                return Err(frame);
+            }
+        }
+    }
+    Ok(())
+}
+
+// One more stop, of no effect: it can stand anywhere but on a discontinued stream.
+fn add_stop(area: &mut [u8], entries: usize) {
+    if entries < FULL {
+        area[2] += 1;
+        area[48 + 20 * entries..][..8].copy_from_slice(&[4, 1, 0, 0, 2, 0, 0, 0]);
+    }
+}
+
+// One byte of the header, of a standing record, or of the rest.
+fn change_byte(random: &mut Random, area: &mut [u8], entries: usize) {
+    let records = 48..48 + 20 * entries;
+    let at = match random.below(3) {
+        0 => random.below(48),
+        1 if entries > 0 => records.start + random.below(records.len()),
+        _ => random.below(AREA),
+    };
+    area[at] = match random.below(3) {
+        0 => area[at].wrapping_add(1),
+        1 => area[at] ^ 1 << random.below(8),
+        _ => random.byte(),
+    };
+}
+
+// Entries as no calls would leave them, or as others would; the figures are made to fit them.
+fn forged(random: &mut Random, mut station: Station) -> Station {
+    let entries = &mut station.entries;
+    if entries.is_empty() {
+        return station;
+    }
+    let at = random.below(entries.len());
+    match random.below(4) {
+        0 => drop(entries.remove(at)),
+        1 if entries.len() < FULL => entries.insert(at, entries[at]),
+        2 => entries.swap(at, 0),
+        _ => {
+            let b = station.plan.map_or(0, |plan| plan.b);
+            let other = |n: u32, random: &mut Random| match random.below(3) {
+                0 => n + 1,
+                1 => n.saturating_sub(1),
+                _ => random.pick(&[0, 1, 10_000, 10_001, 1_000_000, 1_000_001]),
+            };
+            match &mut entries[at] {
+                // No more than the lot has, and no place outside the block: the reference's figures do not go below 0.
+                Entry::Lot { label, size, d, all } => match random.below(4) {
+                    0 => *label = other(*label % 7, random),
+                    1 => *size = other(*size, random).max(*all),
+                    2 => *d = other(*d, random),
+                    _ => *all = other(*all, random).min(*size),
+                },
+                Entry::Run { h, .. } => *h = other(*h, random),
+                Entry::Block { p, .. } => *p = other(*p, random).clamp(1, b),
+                Entry::Stop { days, .. } => *days = other(*days, random),
+            }
+        }
+    }
+    // The reference has no figures after a lot on a discontinued stream.
+    let ended = |count: &usize| {
+        station
+            .plan
+            .is_some_and(|plan| figures(&plan, &station.entries[..*count]).level == 3)
+    };
+    let end = (0..station.entries.len()).find(ended).unwrap_or(station.entries.len());
+    station.entries.truncate(end);
+    station
+}
+
+#[cfg(test)]
+mod tests {
+    use super::*;
+
+    #[test]
+    fn fast_calls_answer_as_the_reference() {
+        for seed in 0..12 {
+            agrees(crate::fast, seed, 1_500).unwrap();
+        }
+    }
+
+    #[test]
+    fn proved_calls_answer_as_the_reference() {
+        for seed in 0..6 {
+            agrees(crate::proved, seed, 1_500).unwrap();
+        }
+    }
+
+    // Where random calls hardly get: a sample without a rest, with one wrong more than it; a number whose low bytes would do.
+    #[test]
+    fn edges_are_as_in_the_reference() {
+        let calls = [
+            (1, [1, 0, 10_000, 0, 0]),
+            (2, [1, 9_900, 99, 100, 100]),
+            (5, [1 << 24 | 1, 2, 0, 0, 0]),
+        ];
+        let (mut ours, mut theirs) = (vec![0; STORE], vec![0; STORE]);
+        for (call, args) in calls {
+            let frame = Frame { call, stream: 3, args };
+            assert_eq!(crate::fast(&mut ours, &frame), call_on_store(&mut theirs, &frame));
+            assert_eq!(ours, theirs);
+        }
+    }
+}

@@ -1,0 +1,146 @@
+use mathlib.Core.Path.{sym, _∙_}
+use native.Mathlib.Omega.{arith}
+use borrow.Author.Tests.{not-true, not-false}
+use Rattle.little.specs.Little.{AreBytes}
+use Rattle.replaying.proofs.Turns.{stand-none, figures-none}
+use Rattle.replay.proofs.Readings.{says-failed, says-other, says-more, says-opened}
+use borrow.Author.Needs.{needs}
+use Rattle.replay.proofs.read_records.Statement.{statement}
+use Rattle.replay.proofs.read_records.Tie as tie
+
+without-requires : tie.Need-without-requires
+without-requires c κs = search needs
+
+started-requires : tie.Need-started-requires
+started-requires c κs = search needs
+
+replay-requires : tie.Need-replay-requires
+replay-requires c κs =
+    let start = c .before .before .before .args in
+    let header = c .before .before .before .pre in
+    record {
+      whole = header .whole;
+      valid = header .valid;
+      inOrder = omega arith;
+      room = omega (arith, header .room, c .before .without .ensures);
+      stood = stand-none _ _;
+      brought = c .started .ensures ∙ sym (figures-none _ _);
+    }
+
+nothing-requires : tie.Need-nothing-requires
+nothing-requires c κs = search needs
+
+returns : tie.Need-returns
+returns c =
+    let start = c .before .before .before .before .before .before .before .args in
+    let header = c .before .before .before .before .before .before .before .pre in
+    c .nothing .ensures
+    ∙ says-failed (start .newest) (start .area .now) (start .plan) (start .count) header (c .before .before .before .replay .result) _
+    (omega (arith, c .before .before .before .before .before .without .ensures)) (c .before .before .before .replay .ensures)
+    (not-true (c .before .before .before .replay .result .sound) (c .before .if1 .taken))
+
+replay-requires-2 : tie.Need-replay-requires-2
+replay-requires-2 c κs =
+    let start = c .before .before .before .before .before .before .before .args in
+    let header = c .before .before .before .before .before .before .before .pre in
+    let older = c .before .before .before .replay in
+    let sound = not-false (older .result .sound) (c .before .if1 .left) in
+    record {
+      whole = header .whole;
+      valid = header .valid;
+      inOrder = omega (arith, c .before .before .before .before .before .without .ensures);
+      room = header .room;
+      stood = sym (older .ensures .allStand) ∙ sound;
+      brought = older .ensures .figuresAfter sound;
+    }
+
+nothing-requires-2 : tie.Need-nothing-requires-2
+nothing-requires-2 c κs = search needs
+
+returns-2 : tie.Need-returns-2
+returns-2 c =
+    let start = c .before .before .before .before .before .before .before .before .before .before .before .args in
+    let header = c .before .before .before .before .before .before .before .before .before .before .before .pre in
+    c .nothing2 .ensures
+    ∙ says-failed (start .newest) (start .area .now) (start .plan) (start .count) header (c .before .before .before .replay2 .result) _
+    (omega arith) (c .before .before .before .replay2 .ensures)
+    (not-true (c .before .before .before .replay2 .result .sound) (c .before .if2 .taken))
+
+has-figures-requires : tie.Need-has-figures-requires
+has-figures-requires c κs = search needs
+
+nothing-requires-3 : tie.Need-nothing-requires-3
+nothing-requires-3 c κs = search needs
+
+returns-3 : tie.Need-returns-3
+returns-3 c =
+    let start = c .before .before .before .before .before .before .before .before .before .before .before .before .before .before .args in
+    let header = c .before .before .before .before .before .before .before .before .before .before .before .before .before .before .pre in
+    let all = c .before .before .before .before .before .before .replay2 in
+    let sound = not-false (all .result .sound) (c .before .before .before .before .if2 .left) in
+    let test = c .before .before .has-figures in
+    c .nothing3 .ensures
+    ∙ says-other (start .newest) (start .area .now) (start .plan) (start .count) header (all .result .figures)
+    (all .ensures .figuresAfter sound) (test .result) (test .ensures) (not-true (test .result) (c .before .if3 .taken))
+
+mul-is-zero-from : tie.Need-mul-is-zero-from
+mul-is-zero-from c = search needs
+
+add-is-zero-from : tie.Need-add-is-zero-from
+add-is-zero-from c = search needs
+
+is-zero-from-requires : tie.Need-is-zero-from-requires
+is-zero-from-requires c κs = search needs
+
+nothing-requires-4 : tie.Need-nothing-requires-4
+nothing-requires-4 c κs = search needs
+
+returns-4 : tie.Need-returns-4
+returns-4 c =
+    let start = c .before .before .before .before .before .before .before .before .before .before .before .before .before .before .before .before .args in
+    let header = c .before .before .before .before .before .before .before .before .before .before .before .before .before .before .before .before .pre in
+    let all = c .before .before .before .before .before .before .before .before .replay2 in
+    let sound = not-false (all .result .sound) (c .before .before .before .before .before .before .if2 .left) in
+    let test = c .before .before .is-zero-from in
+    c .nothing4 .ensures
+    ∙ says-more (start .newest) (start .area .now) (start .plan) (start .count) header (all .result .figures)
+    (all .ensures .figuresAfter sound) (test .result) (test .ensures) (not-true (test .result) (c .before .if4 .taken))
+
+returns-5 : tie.Need-returns-5
+returns-5 c =
+    let start = c .before .before .before .before .before .before .before .before .before .before .before .before .before .before .before .args in
+    let header = c .before .before .before .before .before .before .before .before .before .before .before .before .before .before .before .pre in
+    let all = c .before .before .before .before .before .before .before .replay2 in
+    let sound = not-false (all .result .sound) (c .before .before .before .before .before .if2 .left) in
+    let older = c .before .before .before .before .before .before .before .before .before .before .before .replay in
+    let first = c .before .before .before .before .before .before .before .before .before .before .before .before .before .without .ensures in
+    let stored = c .before .before .before .has-figures in
+    let clear = c .before .is-zero-from in
+    let bytes : AreBytes (start .area .now) = λ k. c .before .before .before .before .before .before .before .before .before .before .before .before .before .before .shared-slice-known .given k .fits in
+    says-opened (start .newest) (start .area .now) (start .plan) (start .count) header (all .result .figures)
+    (all .ensures .figuresAfter sound) (older .result .figures) bytes (sym (all .ensures .allStand) ∙ sound)
+    (rw first at (older .ensures .figuresAfter (not-false (older .result .sound) (c .before .before .before .before .before .before .before .before .before .if1 .left))))
+    (stored .ensures .shows (not-false (stored .result) (c .before .before .if3 .left)))
+    (clear .ensures .shows (not-false (clear .result) (c .if4 .left)))
+
+pub read-records-spec : {M : Type 1} → statement M
+read-records-spec =
+    tie.close
+    (tie.spec
+    without-requires
+    started-requires
+    replay-requires
+    nothing-requires
+    returns
+    replay-requires-2
+    nothing-requires-2
+    returns-2
+    has-figures-requires
+    nothing-requires-3
+    returns-3
+    mul-is-zero-from
+    add-is-zero-from
+    is-zero-from-requires
+    nothing-requires-4
+    returns-4
+    returns-5)

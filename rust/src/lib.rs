@@ -1,0 +1,132 @@
+//! The listening controller: sixteen streams in one store of bytes, for Rust.
+//!
+//! Each function is the proved call of the same name. A store is 41,728 bytes, all zero when fresh. Bad input of any kind, a store of
+//! another length included, gets a refusal number and leaves the store as it was: no call panics, and none has a duty for its caller.
+
+#![warn(missing_docs)]
+
+/// So many streams: 0 to 15.
+pub const STREAMS: u32 = 16;
+/// The length of a store.
+pub const STORE_LENGTH: usize = 41_728;
+/// So many numbers hold a call of [`list`]: its number, its stream, five arguments.
+pub const CALL_LENGTH: usize = 7;
+/// So many numbers hold an answer of [`list`]: its refusal, three numbers.
+pub const ANSWER_LENGTH: usize = 4;
+
+/// What a call gives.
+#[repr(C)]
+#[derive(Clone, Copy, Debug, PartialEq, Eq)]
+pub struct Answer {
+    /// Why the call was refused; 0 where it was not.
+    pub refusal: u32,
+    /// The first number of the call's answer.
+    pub first: u32,
+    /// The second.
+    pub second: u32,
+    /// The third.
+    pub third: u32,
+}
+
+// The declarations of include/listening.h: a slice crosses as pointer and length.
+mod c {
+    use super::Answer;
+
+    extern "C" {
+        pub fn listening_open(s: *mut u8, n: usize, stream: u32, plan: u32, option: u32, a: u32, b: u32) -> Answer;
+        pub fn listening_lot(
+            s: *mut u8,
+            n: usize,
+            stream: u32,
+            label: u32,
+            size: u32,
+            sample: u32,
+            wrong: u32,
+            wrong_in_all: u32,
+        ) -> Answer;
+        pub fn listening_run(s: *mut u8, n: usize, stream: u32, right: u32, wrong: u32) -> Answer;
+        pub fn listening_block(s: *mut u8, n: usize, stream: u32, heard: u32, wrong: u32) -> Answer;
+        pub fn listening_stop(s: *mut u8, n: usize, stream: u32, why: u32, days: u32) -> Answer;
+        pub fn listening_back(s: *mut u8, n: usize, stream: u32) -> Answer;
+        pub fn listening_ask(s: *const u8, n: usize, stream: u32, size: u32) -> Answer;
+        pub fn listening_read(s: *const u8, n: usize, stream: u32) -> Answer;
+        pub fn listening_list(
+            s: *mut u8,
+            n: usize,
+            calls: *const u32,
+            calls_length: usize,
+            answers: *mut u32,
+            answers_length: usize,
+        ) -> bool;
+    }
+}
+
+// Each unsafe block below calls a function that is proved for every slice and every number, with the pointer and length of a slice
+// that the wrapper borrows for as long as the call runs, mutably where the call may write.
+
+/// Opens a stream: plan 1 credit (`a`: limit in millionths), 2 level (`a`: VL), 3 continuous (`a`: clearance number, `b`: interval).
+pub fn open(store: &mut [u8], stream: u32, plan: u32, option: u32, a: u32, b: u32) -> Answer {
+    unsafe { c::listening_open(store.as_mut_ptr(), store.len(), stream, plan, option, a, b) }
+}
+
+/// Enters a lot. Gives the verdict, what is accepted, and the credit or level.
+pub fn lot(store: &mut [u8], stream: u32, label: u32, size: u32, sample: u32, wrong: u32, wrong_in_all: u32) -> Answer {
+    unsafe {
+        c::listening_lot(
+            store.as_mut_ptr(),
+            store.len(),
+            stream,
+            label,
+            size,
+            sample,
+            wrong,
+            wrong_in_all,
+        )
+    }
+}
+
+/// Enters a run in screening. Gives what is accepted, and the phase.
+pub fn run(store: &mut [u8], stream: u32, right: u32, wrong: u32) -> Answer {
+    unsafe { c::listening_run(store.as_mut_ptr(), store.len(), stream, right, wrong) }
+}
+
+/// Enters a block in sampling. Gives what is accepted, what to hear back, and the phase.
+pub fn block(store: &mut [u8], stream: u32, heard: u32, wrong: u32) -> Answer {
+    unsafe { c::listening_block(store.as_mut_ptr(), store.len(), stream, heard, wrong) }
+}
+
+/// Enters a stop: `why` 1 a pause of so many days, 2 the set-up changed.
+pub fn stop(store: &mut [u8], stream: u32, why: u32, days: u32) -> Answer {
+    unsafe { c::listening_stop(store.as_mut_ptr(), store.len(), stream, why, days) }
+}
+
+/// Takes the newest entry back. Gives its kind.
+pub fn back(store: &mut [u8], stream: u32) -> Answer {
+    unsafe { c::listening_back(store.as_mut_ptr(), store.len(), stream) }
+}
+
+/// Gives the sample that a lot of this size asks for.
+pub fn ask(store: &[u8], stream: u32, size: u32) -> Answer {
+    unsafe { c::listening_ask(store.as_ptr(), store.len(), stream, size) }
+}
+
+/// Gives the count of standing entries, what is accepted in all, and the figure of the plan.
+pub fn read(store: &[u8], stream: u32) -> Answer {
+    unsafe { c::listening_read(store.as_ptr(), store.len(), stream) }
+}
+
+/// Makes a list of calls, seven numbers each, and writes the answers, four numbers each. False, and nothing made, where a call does
+/// not exist or the room for answers is not exactly that of the calls.
+pub fn list(store: &mut [u8], calls: &[u32], answers: &mut [u32]) -> bool {
+    let (calls_length, answers_length) = (calls.len(), answers.len());
+    unsafe {
+        c::listening_list(
+            store.as_mut_ptr(),
+            store.len(),
+            calls.as_ptr(),
+            calls_length,
+            answers.as_mut_ptr(),
+            answers_length,
+        )
+    }
+}

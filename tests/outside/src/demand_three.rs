@@ -1,0 +1,183 @@
+//! Demand 3 and the backward rules, at run time. The test keeps each stream's standing list itself, from the calls, their arguments
+//! and their refusal numbers, never off the bytes. At many points it makes the accepted Open and the standing entries on another
+//! fresh store, through the library: the stream's area must be the same there, every next call must give the same, and the figures
+//! in the bytes must be those that paper 01's backward rules read off the list.
+
+use crate::compare::{at, first_difference, make, same};
+use crate::{said, Done, Setting};
+use reference::{
+    backward_c, backward_credit, backward_phase, backward_tail, backward_window, call_of, entry_of, little, Call, Caller, Entry,
+    Frame, Plan, AREA, CONTINUOUS, CREDIT, LEVEL, STORE, STREAMS,
+};
+
+const LISTS: u64 = 40;
+const CALLS: usize = 12_000;
+/// One call in so many is followed by a replay.
+const EVERY: usize = 12;
+/// So many next calls, one after the other, on copies of both stores.
+const NEXT: usize = 4;
+
+pub fn test(setting: &Setting) -> Result<Done, String> {
+    let seeds = setting.seeds(LISTS);
+    let mut tally = Tally::default();
+    for seed in seeds.clone() {
+        one_list(seed, &mut tally)?;
+    }
+    let Tally {
+        calls,
+        replays,
+        entries,
+        deepest,
+        figures,
+    } = tally;
+    if deepest < 128 || figures.contains(&0) {
+        return Err(format!("too little was met: deepest {deepest}, figures {figures:?}"));
+    }
+    let [credits, windows, cs, phases, tails] = figures;
+    let what = format!(
+        "{replays} standing lists of {entries} entries, the longest {deepest}, made again on a fresh store, each with {NEXT} next \
+         calls on both, {}; read backwards and not 0: credit {credits}, window {windows}, c {cs}, phase {phases}, u {tails} times",
+        said(&seeds)
+    );
+    Ok(Done { calls, what })
+}
+
+#[derive(Default)]
+struct Tally {
+    calls: usize,
+    replays: usize,
+    entries: usize,
+    deepest: usize,
+    /// Credit, window, c, phase and u that were not 0.
+    figures: [usize; 5],
+}
+
+/// The accepted Open and the standing entries, oldest first, each as the call that entered it.
+#[derive(Clone, Default)]
+struct Standing {
+    open: Option<Frame>,
+    entries: Vec<Frame>,
+}
+
+impl Standing {
+    fn take(&mut self, frame: &Frame, refusal: u32) {
+        if refusal != 0 {
+            return;
+        }
+        match call_of(frame).expect("a call") {
+            Call::Open(_) => self.open = Some(*frame),
+            Call::Back => {
+                self.entries.pop();
+            }
+            Call::Ask { .. } | Call::Read => {}
+            Call::Lot { .. } | Call::Run { .. } | Call::Block { .. } | Call::Stop { .. } => self.entries.push(*frame),
+        }
+    }
+
+    fn plan(&self) -> Option<Plan> {
+        self.open.map(|frame| match call_of(&frame) {
+            Some(Call::Open(plan)) => plan,
+            _ => panic!("an Open"),
+        })
+    }
+
+    fn entries(&self) -> Vec<Entry> {
+        self.entries.iter().filter_map(|frame| entry_of(&call_of(frame)?)).collect()
+    }
+}
+
+fn one_list(seed: u64, tally: &mut Tally) -> Result<(), String> {
+    let mut caller = Caller::new(seed, CALLS, u32::MAX);
+    let mut store = vec![0; STORE];
+    let mut standing = vec![Standing::default(); STREAMS as usize];
+    for k in 1..=CALLS {
+        let frame = caller.next_call();
+        caller.make(&frame); // so that the caller knows where its calls have led
+        let answer = make(&mut store, &frame);
+        let Some(standing) = standing.get_mut(frame.stream as usize) else {
+            continue;
+        };
+        standing.take(&frame, answer[0]);
+        if caller.random.chance(1, EVERY) {
+            let place = || {
+                format!(
+                    "seed {seed}, after call {k}, {frame:?}, standing {:?} {:?}",
+                    standing.open, standing.entries
+                )
+            };
+            at(place, check(&mut caller, &store, frame.stream, standing, tally))?;
+        }
+    }
+    Ok(())
+}
+
+fn check(caller: &mut Caller, store: &[u8], stream: u32, standing: &Standing, tally: &mut Tally) -> Result<(), String> {
+    let other = replay(standing)?;
+    let from = stream as usize * AREA;
+    let area = from..from + AREA;
+    let mut alone = vec![0; STORE];
+    alone[area.clone()].copy_from_slice(&store[area.clone()]);
+    if other != alone {
+        return Err(format!("replayed: {}", first_difference(&other, &alone)));
+    }
+    next_calls(caller, stream, store.to_vec(), other)?;
+    if let Some(plan) = standing.plan() {
+        backward(&plan, &standing.entries(), &store[area], tally)?;
+    }
+    tally.replays += 1;
+    tally.calls += standing.entries.len() + NEXT;
+    tally.entries += standing.entries.len();
+    tally.deepest = tally.deepest.max(standing.entries.len());
+    Ok(())
+}
+
+/// A fresh store after the Open and the standing entries, each of which is accepted again.
+fn replay(standing: &Standing) -> Result<Vec<u8>, String> {
+    let mut store = vec![0; STORE];
+    for frame in standing.open.iter().chain(&standing.entries) {
+        let answer = make(&mut store, frame);
+        if answer[0] != 0 {
+            return Err(format!("replayed: {frame:?} gives {answer:?}"));
+        }
+    }
+    Ok(store)
+}
+
+/// Whichever call on this stream follows gives the same on both stores, and leaves the same area.
+fn next_calls(caller: &mut Caller, stream: u32, mut store: Vec<u8>, mut other: Vec<u8>) -> Result<(), String> {
+    let area = stream as usize * AREA..(stream as usize + 1) * AREA;
+    for _ in 0..NEXT {
+        let next = caller.call_on(stream);
+        let long_lived = make(&mut store, &next);
+        let replayed = make(&mut other, &next);
+        let place = || format!("next {next:?}, long-lived store against replayed");
+        at(
+            place,
+            same((long_lived, &store[area.clone()]), (replayed, &other[area.clone()])),
+        )?;
+    }
+    Ok(())
+}
+
+/// Paper 01, the backward rules, against the figures in the area's bytes; figures foreign to the plan are zero.
+fn backward(plan: &Plan, entries: &[Entry], area: &[u8], tally: &mut Tally) -> Result<(), String> {
+    let only = |kind, figure: &dyn Fn() -> u32| if plan.kind == kind { u64::from(figure()) } else { 0 };
+    let figures = [
+        ("credit", little(area, 16, 4), only(CREDIT, &|| backward_credit(entries))),
+        ("window", little(area, 23, 1), only(LEVEL, &|| backward_window(entries))),
+        ("c", little(area, 24, 4), only(CONTINUOUS, &|| backward_c(plan, entries))),
+        (
+            "phase",
+            little(area, 28, 1),
+            only(CONTINUOUS, &|| backward_phase(plan, entries)),
+        ),
+        ("u", little(area, 30, 2), only(CONTINUOUS, &|| backward_tail(plan, entries))),
+    ];
+    for (k, (name, stored, read)) in figures.into_iter().enumerate() {
+        if stored != read {
+            return Err(format!("{name} is {stored} in the bytes, {read} read backwards"));
+        }
+        tally.figures[k] += usize::from(read > 0);
+    }
+    Ok(())
+}

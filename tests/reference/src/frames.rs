@@ -1,0 +1,51 @@
+//! The program over standard input: one frame a line, one answer a line.
+
+use crate::area::{call_on_store, STORE};
+use crate::calls::{call_of, Frame, ARGUMENTS};
+
+/// The frame that a line holds; none gives `ff`.
+pub fn frame(line: &[u8]) -> Option<Frame> {
+    if line.len() != 4 + 8 * ARGUMENTS {
+        return None;
+    }
+    let mut digits = Vec::new();
+    for byte in line {
+        digits.push(match *byte {
+            b'0'..=b'9' => u32::from(*byte - b'0'),
+            b'a'..=b'f' => u32::from(*byte - b'a') + 10,
+            _ => return None,
+        });
+    }
+    let number = |from: usize, to: usize| digits[from..to].iter().fold(0, |number, digit| number * 16 + digit);
+    let mut args = [0; ARGUMENTS];
+    for (k, arg) in args.iter_mut().enumerate() {
+        *arg = number(4 + 8 * k, 12 + 8 * k);
+    }
+    let frame = Frame {
+        call: number(0, 2),
+        stream: number(2, 4),
+        args,
+    };
+    call_of(&frame).map(|_| frame)
+}
+
+/// All that the program prints for this input.
+pub fn frames_output(input: &[u8]) -> Vec<u8> {
+    let mut lines: Vec<&[u8]> = input.split(|byte| *byte == b'\n').collect();
+    // what follows the last line feed is a line only if there is any byte of it
+    if lines.last().is_some_and(|line| line.is_empty()) {
+        lines.pop();
+    }
+    let mut store = vec![0; STORE];
+    let mut output = String::new();
+    for line in lines {
+        match frame(line) {
+            None => output.push_str("ff\n"),
+            Some(frame) => {
+                let [refusal, first, second, third] = call_on_store(&mut store, &frame);
+                output.push_str(&format!("{refusal:02x}{first:08x}{second:08x}{third:08x}\n"));
+            }
+        }
+    }
+    output.into_bytes()
+}

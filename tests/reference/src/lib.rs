@@ -1,0 +1,23 @@
+//! The reference: paper 01 once more, written from the papers alone and from nothing of the proved crates. A stream is its plan and
+//! the list of its standing entries, and whatever is asked is worked out from that list anew: slow, and plain on purpose.
+//!
+//! Read `samples`, `station`, `calls`, `area`, in this order. `backward` has paper 01's backward rules, `frames` the program over
+//! standard input, `random`, `arguments` and `making` the random calls that the tests make.
+
+mod area;
+mod arguments;
+mod backward;
+mod calls;
+mod frames;
+mod making;
+mod random;
+mod samples;
+mod station;
+
+pub use area::{area_bytes, call_on_store, little, read_area, AREA, RECORD, RECORDS_FROM, STORE, STREAMS};
+pub use backward::{backward_c, backward_credit, backward_phase, backward_tail, backward_window};
+pub use calls::{answer, call_of, entry_of, Answer, Call, Frame, ARGUMENTS};
+pub use frames::{frame, frames_output};
+pub use making::Caller;
+pub use random::Random;
+pub use station::{figures, Entry, Figures, Plan, Station, CONTINUOUS, CREDIT, FULL, LEVEL};
