@@ -20,7 +20,6 @@ abbrev case : ℕ → ℕ → Case
 case g s = record { given = g; stated = s }
 
 unfoldable pub creditCases : List Case
-unfolding case
 creditCases =
     case (creditSample 0 201 15000) 51
     ∷ case (creditSample 201 192 15000) 28
@@ -32,7 +31,6 @@ creditCases =
     ∷ []
 
 unfoldable pub levelCases : List Case
-unfolding case
 levelCases =
     case (levelSample 2 normal 800) 20
     ∷ case (levelSample 2 tightened 800) 50
@@ -52,7 +50,6 @@ unfoldable pub wrongBlock : Block
 wrongBlock = afterBlock 48 5 true (rightBlock .state)
 
 unfoldable pub continuousCases : List Case
-unfolding case
 continuousCases =
     case (wrongBlock .«hear_back») 42
     ∷ case (116 + rightBlock .accepted + wrongBlock .accepted) 168
