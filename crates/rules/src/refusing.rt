@@ -282,7 +282,7 @@ fn is_none_missed(wrong: u32, all: u32) -> bool
 }
 
 // The range of all that was found wrong, by the verdict.
-fn is_by_verdict(verdict: u32, size: u32, sample: u32, wrong: u32, all: u32) -> bool
+pub fn is_by_verdict(verdict: u32, size: u32, sample: u32, wrong: u32, all: u32) -> bool
     requires { ⌜ (wrong ≤ sample) × (sample ≤ size) × (size ≤ 1000000) ⌝ }
     ensures { λ r. ⌜ r ≡ (not (eqb verdict lotHeard) || within wrong (size - sample + wrong) all) && (not (eqb verdict lotWithheld) || eqb all wrong) ⌝ }
 {

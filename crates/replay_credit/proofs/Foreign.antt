@@ -1,0 +1,87 @@
+-- On a credit stream the figures foreign to the plan are zero, so that three numbers say all. Assumes nothing.
+use Prim.Native.Nat.{ℕ, _%_, _<_}
+use mathlib.Core.Path.{_≡_, refl, sym}
+use mathlib.Core.Bool.{Bool, true, false, cond}
+use mathlib.Core.List.{List, [], _∷_}
+use native.Mathlib.Nat.{mod-eq-of-lt}
+use lib.Dec.{T, ltb}
+use lib.ListN.{length}
+use borrow.Author.Tests.{lt-ltb}
+use Rattle.plans.specs.Continuous.{screening}
+use Rattle.model.specs.declared.Plan.{Plan}
+use Rattle.model.specs.declared.Entry.{Entry}
+use Rattle.model.specs.declared.Entry.the-variants.{Lot, Run, Block, Stop}
+use Rattle.model.specs.declared.Figures.{Figures}
+use Rattle.model.specs.Stations.{isCredit, isLevel, isContinuous}
+use Rattle.model.specs.Figuring.{noLevel, started, levelStep, continuousStep, isLot, labelOf, stepped, figuresOf}
+use Rattle.model.specs.Calls.{firstOf, entryRefusals, admissible}
+use Rattle.model.proofs.Booleans.{never-both}
+use Rattle.model.proofs.Allowed.{allowed-run, allowed-block, newest-of}
+use Rattle.replay_credit.specs.Carrying.{noLabel, figuresIn, carriedFrom}
+
+pub record CreditOnly (f : Figures) : Type 0 where
+  pub noLevels : f .level ≡ noLevel
+  pub noCounts : f .continuous ≡ screening 0
+  pub noLot : f .labelled ≡ false → f .label ≡ 0
+
+module _ (p : Plan) (kind : p .kind ≡ 1) where
+  pub is-credit : isCredit p ≡ true
+  unfolding isCredit
+  is-credit = rw kind
+
+  pub not-level : isLevel p ≡ false
+  unfolding isLevel
+  not-level = rw kind
+
+  pub not-continuous : isContinuous p ≡ false
+  unfolding isContinuous
+  not-continuous = rw kind
+
+  stepped-only : (f : Figures) (n : ℕ) (e : Entry) → firstOf (entryRefusals p f n e) ≡ 0 → CreditOnly f → CreditOnly (stepped p e f)
+  unfolding stepped levelStep continuousStep isLot labelOf
+  stepped-only f n (Lot label N m d D) taken only =
+      record {
+        noLevels = rw not-level (only .noLevels);
+        noCounts = only .noCounts;
+        noLot = λ e. absurd (never-both true refl e);
+      }
+  stepped-only f n (Run h w) taken only =
+      absurd (never-both (isContinuous p) (allowed-run p f n h w taken .continuous) not-continuous)
+  stepped-only f n (Block q w) taken only =
+      absurd (never-both (isContinuous p) (allowed-block p f n q w taken .continuous) not-continuous)
+  stepped-only f n (Stop why days) taken only =
+      record {
+        noLevels = rw not-level (only .noLevels);
+        noCounts = rw not-continuous (only .noCounts);
+        noLot = only .noLot;
+      }
+
+  started-only : CreditOnly (started p)
+  unfolding started
+  started-only = record { noLevels = rw not-level; noCounts = refl; noLot = λ e. refl }
+
+  pub entries-only : (es : List Entry) → T (admissible p es) → CreditOnly (figuresOf p es)
+  unfolding figuresOf
+  entries-only [] ok = started-only
+  entries-only (e ∷ es) ok =
+      let newest = newest-of p e es ok in
+      stepped-only (figuresOf p es) (length es) e (newest .accepted) (entries-only es (newest .others))
+
+-- the newest label, and whether there is one, in one number
+is-labelled : (b : Bool) (n : ℕ) → n < noLabel → ltb (cond b n noLabel) noLabel ≡ b
+is-labelled true n h = lt-ltb n noLabel h
+is-labelled false n h = refl
+
+label-is : (b : Bool) (n : ℕ) → n < noLabel → (b ≡ false → n ≡ 0) → cond b n noLabel % noLabel ≡ n
+label-is true n h none = mod-eq-of-lt h
+label-is false n h none = sym (none refl)
+
+pub carried-same : (f : Figures) → CreditOnly f → f .label < noLabel → figuresIn (carriedFrom f) ≡ f
+unfolding figuresIn carriedFrom
+carried-same f only h =
+    rw (
+      is-labelled (f .labelled) (f .label) h,
+      label-is (f .labelled) (f .label) h (only .noLot),
+      ← only .noLevels,
+      ← only .noCounts,
+    )

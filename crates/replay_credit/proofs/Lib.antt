@@ -1,0 +1,6 @@
+-- Laws of a credit stream's replay.
+pub mod Stops
+pub mod Foreign
+pub mod Lots
+pub mod Steps
+pub mod Turning

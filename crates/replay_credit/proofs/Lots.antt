@@ -1,0 +1,128 @@
+-- The answers to a lot's record on a credit stream, one law for each. Assumes nothing.
+use Prim.Native.Nat.{ℕ, _+_, _-_, _*_, _≤_, _<_}
+use mathlib.Core.Path.{_≡_, refl, ap, _∙_}
+use mathlib.Core.Bool.{Bool, true, false, cond, not, _&&_, _||_, and-false}
+use mathlib.Core.List.{List}
+use native.Mathlib.Omega.{arith}
+use lib.Dec.{eqb, leb·zero}
+use lib.ListN.{length}
+use borrow.Author.Tests.{eqb-true, eqb-false, eq-eqb, ne-eqb, le-leb, lt-leb}
+use Rattle.little.specs.Little.{value, part}
+use Rattle.little.proofs.Laws.{value-eight}
+use Rattle.plans.specs.Credit.{creditSample, creditVerdict, creditAfter}
+use Rattle.plans.specs.Verdicts.{lotHeard, lotWithheld, acceptedOf}
+use Rattle.model.specs.declared.Plan.{Plan}
+use Rattle.model.specs.Sizes.{recordLength, headerLength, mostRecords, areaLength}
+use Rattle.model.specs.Stations.{hasOption, within}
+use Rattle.model.specs.Calls.{countsAgree}
+use Rattle.model.proofs.Booleans.{both-true, within-of}
+use Rattle.records.specs.declared.Record.{Record}
+use Rattle.records.specs.Records.{recordIn, recordAt}
+use Rattle.records.proofs.Laws.{record-read}
+use Rattle.replaying.specs.Replaying.{headOf, isStop}
+use Rattle.replay_credit.specs.declared.Carried.{Carried}
+use Rattle.replay_credit.specs.declared.Step.the-variants.{Stands, Fails}
+use Rattle.replay_credit.specs.Carrying.{stepIf, mayFollow, noneWrong, verdictIn, countsFit, afterLot, lotStep, stepOf}
+
+-- the range of all that was found wrong, by the verdict v on a lot of N with d wrong in a sample of n: the rule's last two parts
+abbrev byVerdict : ℕ → ℕ → ℕ → ℕ → ℕ → Bool
+byVerdict v N n d D = (not (eqb v lotHeard) || within d (N - n + d) D) && (not (eqb v lotWithheld) || eqb D d)
+
+module _ (p : Plan) (s : Carried) (r : Record) where
+  -- a lot's record, and another
+  pub lot-step : headOf r ≡ 1 → lotStep p s r ≡ stepOf p s r
+  unfolding stepOf
+  lot-step head = rw (eq-eqb (headOf r) 1 head)
+
+  pub stop-step : (headOf r ≡ 1 → ⊥) → stepIf (isStop r) s ≡ stepOf p s r
+  unfolding stepOf
+  stop-step other = rw (ne-eqb (headOf r) 1 other)
+
+  pub size-in-range : mayFollow s r ≡ true → (1 ≤ r .b) × (r .b ≤ 1000000)
+  unfolding mayFollow
+  size-in-range e = within-of 1 1000000 (r .b) (both-true (not (eqb (r .a) (s .newest))) (within 1 1000000 (r .b)) e .1)
+
+  pub not-following : mayFollow s r ≡ false → Fails ≡ lotStep p s r
+  unfolding lotStep stepIf
+  not-following e = rw e
+
+  pub counts-unfit : countsFit p s r ≡ false → Fails ≡ lotStep p s r
+  unfolding lotStep stepIf
+  counts-unfit e = rw (e, and-false (mayFollow s r))
+
+  pub lot-stands : mayFollow s r ≡ true → countsFit p s r ≡ true → Stands (afterLot p s r) ≡ lotStep p s r
+  unfolding lotStep stepIf
+  lot-stands e c = rw (e, c)
+
+  -- nothing wrong: accepted whole, whatever the sample
+  module _ (none : noneWrong r ≡ true) where
+    zeros : (r .c ≡ 0) × (r .d ≡ 0)
+    unfolding noneWrong
+    zeros =
+        let both = both-true (eqb (r .c) 0) (eqb (r .d) 0) none in
+        (eqb-true (r .c) 0 (both .0), eqb-true (r .d) 0 (both .1))
+
+    good-counts : countsFit p s r ≡ true
+    unfolding countsFit countsAgree verdictIn creditVerdict
+    good-counts =
+        rw (eq-eqb (r .c) 0 (zeros .0), eq-eqb (r .d) 0 (zeros .1), le-leb (r .c) (creditSample (s .credit) (r .b) (p .a)) (omega (arith, zeros)))
+
+    after-good : record { credit = s .credit + r .b; accepted = s .accepted + r .b; newest = r .a } ≡ afterLot p s r
+    unfolding verdictIn creditVerdict afterLot creditAfter acceptedOf
+    after-good = rw (eq-eqb (r .c) 0 (zeros .0))
+
+    pub good-lot : mayFollow s r ≡ true
+        → Stands (record { credit = s .credit + r .b; accepted = s .accepted + r .b; newest = r .a }) ≡ lotStep p s r
+    good-lot e = ap Stands after-good ∙ lot-stands e good-counts
+
+  -- nothing wrong in the sample, something in all that was heard
+  pub missed : r .c ≡ 0 → noneWrong r ≡ false → countsFit p s r ≡ false
+  unfolding noneWrong countsFit countsAgree
+  missed c some =
+      let d : eqb (r .d) 0 ≡ false = rw (noneWrong, c) at some in
+      simp (c, d, leb·zero)
+
+  pub past-sample : creditSample (s .credit) (r .b) (p .a) < r .c → countsFit p s r ≡ false
+  unfolding countsFit countsAgree
+  past-sample h = simp (lt-leb (r .c) (creditSample (s .credit) (r .b) (p .a)) h)
+
+  -- something wrong in the sample
+  module _ (v n : ℕ) (judged : v ≡ verdictIn p s r) (asked : n ≡ creditSample (s .credit) (r .b) (p .a)) (some : r .c ≡ 0 → ⊥) where
+    pub by-verdict : r .c ≤ n → countsFit p s r ≡ byVerdict v (r .b) n (r .c) (r .d)
+    unfolding countsFit countsAgree
+    by-verdict h = rw (← judged, ← asked, le-leb (r .c) n h, ne-eqb (r .c) 0 some)
+
+    -- such a lot is heard whole, or returned
+    verdict-of-wrong : v ≡ cond (eqb (s .credit) 0 || hasOption p) lotHeard lotWithheld
+    unfolding verdictIn creditVerdict
+    verdict-of-wrong = judged ∙ rw (ne-eqb (r .c) 0 some)
+
+    -- no more is wrong than the lot holds
+    pub wrong-at-most : r .c ≤ n → n ≤ r .b → byVerdict v (r .b) n (r .c) (r .d) ≡ true → r .d ≤ r .b
+    wrong-at-most h most fit = go (eqb (s .credit) 0 || hasOption p) (rw verdict-of-wrong at fit)
+      where
+        go : (heard : Bool) → byVerdict (cond heard lotHeard lotWithheld) (r .b) n (r .c) (r .d) ≡ true → r .d ≤ r .b
+        go true e = omega (arith, within-of (r .c) (r .b - n + r .c) (r .d) (both-true (within (r .c) (r .b - n + r .c) (r .d)) true e .0))
+        go false e = omega (arith, eqb-true (r .d) (r .c) e)
+
+    pub after-wrong : record { credit = 0; accepted = s .accepted + acceptedOf v (r .b) (r .d); newest = r .a } ≡ afterLot p s r
+    unfolding afterLot creditAfter
+    after-wrong = rw (judged, ne-eqb (r .c) 0 some)
+
+-- ---- a lot's last two numbers read as one
+
+both-zero : (c d : ℕ) → eqb (c + d * 4294967296) 0 ≡ eqb c 0 && eqb d 0
+both-zero c d = go (eqb c 0) (eqb d 0) refl refl
+  where
+    go : (x y : Bool) → eqb c 0 ≡ x → eqb d 0 ≡ y → eqb (c + d * 4294967296) 0 ≡ x && y
+    go true true e g = eq-eqb (c + d * 4294967296) 0 (omega (arith, eqb-true c 0 e, eqb-true d 0 g))
+    go true false e g = ne-eqb (c + d * 4294967296) 0 (λ z. eqb-false d 0 g (omega arith))
+    go false y e g = ne-eqb (c + d * 4294967296) 0 (λ z. eqb-false c 0 e (omega arith))
+
+pub none-wrong-read : (area : List ℕ) (at i : ℕ) → at ≡ headerLength + recordLength * i → length area ≡ areaLength → i < mostRecords
+    → eqb (value (part (at + 12) 8 area)) 0 ≡ noneWrong (recordIn (recordAt area i))
+unfolding noneWrong
+none-wrong-read area at i e whole room =
+    let next : at + 12 + 4 ≡ at + 16 = omega arith in
+    rw (record-read area at i e room, ← value-eight (at + 12) area (omega arith), next)
+    (both-zero (value (part (at + 12) 4 area)) (value (part (at + 16) 4 area)))

@@ -1,0 +1,106 @@
+use mathlib.Core.Path.{_≡_, sym, ap, _∙_}
+use mathlib.Core.Bool.{true}
+use native.Mathlib.Omega.{arith}
+use borrow.Author.Needs.{needs}
+use borrow.Author.Tests.{not-true, not-false}
+use Rattle.records.specs.Records.{recordIn, recordAt}
+use Rattle.replay_credit.specs.Carrying.{mayFollow, noneWrong, lotStep, stepOf}
+use Rattle.replay_credit.proofs.Lots.{size-in-range, lot-step, stop-step, not-following, good-lot}
+use Rattle.replay_credit.proofs.enter.Statement.{statement}
+use Rattle.replay_credit.proofs.enter.Tie as tie
+
+head-at-requires : tie.Need-head-at-requires
+head-at-requires c κs = search needs
+
+enter-stop-requires : tie.Need-enter-stop-requires
+enter-stop-requires c κs = search needs
+
+returns : tie.Need-returns
+returns c =
+    let seen = c .before .before in
+    c .enter-stop .ensures ∙ stop-step _ _ _ (λ e. c .before .if1 .taken (seen .head-at .ensures ∙ e))
+
+get-record-requires : tie.Need-get-record-requires
+get-record-requires c κs = search needs
+
+may-follow-requires : tie.Need-may-follow-requires
+may-follow-requires c κs = search needs
+
+-- the lot that was read is the i-th record's
+of-lot : (c : tie.After-get-record)
+    → lotStep (c .before .before .before .before .args .plan) (c .before .before .before .before .args .carried) (c .get-record .result)
+    ≡ stepOf (c .before .before .before .before .args .plan) (c .before .before .before .before .args .carried)
+    (recordIn (recordAt (c .before .before .before .before .args .area .now) (c .before .before .before .before .args .i)))
+of-lot c = ap (lotStep _ _) (c .get-record .ensures) ∙ lot-step _ _ _ (sym (c .before .before .head-at .ensures) ∙ c .before .if1 .left)
+
+follows : (c : tie.Else2)
+    → mayFollow (c .before .before .before .before .before .before .args .carried) (c .before .before .get-record .result) ≡ true
+follows c = sym (c .before .may-follow .ensures) ∙ not-false (c .before .may-follow .result) (c .if2 .left)
+
+returns-2 : tie.Need-returns-2
+returns-2 c =
+    not-following _ _ _ (sym (c .before .may-follow .ensures) ∙ not-true (c .before .may-follow .result) (c .if2 .taken))
+    ∙ of-lot (c .before .before)
+
+has-none-wrong-requires : tie.Need-has-none-wrong-requires
+has-none-wrong-requires c κs = search needs
+
+enter-wrong-lot-requires : tie.Need-enter-wrong-lot-requires
+enter-wrong-lot-requires c κs =
+    let tested = c .before in
+    let read = tested .before .before .before in (
+      read .before .before .before .before .pre .2,
+      follows (tested .before),
+      ap noneWrong (read .get-record .ensures)
+          ∙ sym (tested .has-none-wrong .ensures)
+          ∙ not-true (tested .has-none-wrong .result) (c .if3 .taken),
+    )
+
+returns-3 : tie.Need-returns-3
+returns-3 c = c .enter-wrong-lot .ensures ∙ of-lot (c .before .before .before .before .before)
+
+add-t6 : tie.Need-add-t6
+add-t6 c =
+    let tested = c .before .before .before in
+    let start = tested .before .before .before .before .before .before .before in
+    let size = size-in-range (start .args .plan) (start .args .carried) (tested .before .before .before .get-record .result) (follows (tested .before)) in
+    omega arith
+
+cast-t9 : tie.Need-cast-t9
+cast-t9 c = search needs
+
+add-t10 : tie.Need-add-t10
+add-t10 c = search needs
+
+cast-t11 : tie.Need-cast-t11
+cast-t11 c = search needs
+
+returns-4 : tie.Need-returns-4
+returns-4 c =
+    let tested = c .before .before .before .before .before .before in
+    let read = tested .before .before .before in
+    good-lot _ _ _
+    (ap noneWrong (read .get-record .ensures)
+    ∙ sym (tested .has-none-wrong .ensures)
+    ∙ not-false (tested .has-none-wrong .result) (c .before .before .before .before .before .if3 .left))
+    (follows (tested .before))
+    ∙ of-lot read
+
+pub enter-spec : {M : Type 1} → statement M
+enter-spec =
+    tie.close
+    (tie.spec
+    head-at-requires
+    enter-stop-requires
+    returns
+    get-record-requires
+    may-follow-requires
+    returns-2
+    has-none-wrong-requires
+    enter-wrong-lot-requires
+    returns-3
+    add-t6
+    cast-t9
+    add-t10
+    cast-t11
+    returns-4)
