@@ -64,8 +64,8 @@ listening_answer listening_read(const uint8_t *store, size_t store_length, uint3
 /*
  * Makes a list of calls, one after the other. Each is seven numbers: its number (1 open, 2 lot, 3 run, 4 block, 5 stop, 6 back, 7 ask,
  * 8 read), the stream, and five arguments, those that it has not being 0. Each answer is four numbers, the refusal first. Where a call
- * does not exist, or the room for answers is not exactly that of the calls, nothing is made and the result is false.
- * Both lengths are counts of numbers.
+ * does not exist, or the room for answers is not exactly that of the calls, nothing is made and the result is false. A store of another
+ * length is no such case: the list is made, and each call refused by 1. Both lengths are counts of numbers.
  */
 bool listening_list(uint8_t *store, size_t store_length, const uint32_t *calls, size_t calls_length, uint32_t *answers,
                     size_t answers_length);

@@ -69,7 +69,7 @@ pub fn open(store: &mut [u8], stream: u32, plan: u32, option: u32, a: u32, b: u3
     unsafe { c::listening_open(store.as_mut_ptr(), store.len(), stream, plan, option, a, b) }
 }
 
-/// Enters a lot. Gives the verdict, what is accepted, and the credit or level.
+/// Enters a lot. Gives the verdict (1 accepted, 2 all heard, 3 returned or withheld), what is accepted, and the credit or level.
 pub fn lot(store: &mut [u8], stream: u32, label: u32, size: u32, sample: u32, wrong: u32, wrong_in_all: u32) -> Answer {
     unsafe {
         c::listening_lot(
