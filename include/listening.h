@@ -34,8 +34,8 @@ typedef struct {
     uint32_t third;
 } listening_answer;
 
-/* Opens a stream. Plan 1 credit (a: limit in millionths), 2 level (a: VL), 3 continuous (a: clearance number, b: interval). */
-listening_answer listening_open(uint8_t *store, size_t store_length, uint32_t stream, uint32_t plan, uint32_t option, uint32_t a,
+/* Opens a stream. Kind 1 credit (a: limit in millionths), 2 level (a: VL), 3 continuous (a: clearance number, b: interval). */
+listening_answer listening_open(uint8_t *store, size_t store_length, uint32_t stream, uint32_t kind, uint32_t option, uint32_t a,
                                 uint32_t b);
 
 /* Enters a lot. Gives the verdict (1 accepted, 2 all heard, 3 returned or withheld), what is accepted, and the credit or level. */

@@ -33,7 +33,7 @@ mod c {
     use super::Answer;
 
     extern "C" {
-        pub fn listening_open(s: *mut u8, n: usize, stream: u32, plan: u32, option: u32, a: u32, b: u32) -> Answer;
+        pub fn listening_open(s: *mut u8, n: usize, stream: u32, kind: u32, option: u32, a: u32, b: u32) -> Answer;
         pub fn listening_lot(
             s: *mut u8,
             n: usize,
@@ -64,9 +64,9 @@ mod c {
 // Each unsafe block below calls a function that is proved for every slice and every number, with the pointer and length of a slice
 // that the wrapper borrows for as long as the call runs, mutably where the call may write.
 
-/// Opens a stream: plan 1 credit (`a`: limit in millionths), 2 level (`a`: VL), 3 continuous (`a`: clearance number, `b`: interval).
-pub fn open(store: &mut [u8], stream: u32, plan: u32, option: u32, a: u32, b: u32) -> Answer {
-    unsafe { c::listening_open(store.as_mut_ptr(), store.len(), stream, plan, option, a, b) }
+/// Opens a stream: kind 1 credit (`a`: limit in millionths), 2 level (`a`: VL), 3 continuous (`a`: clearance number, `b`: interval).
+pub fn open(store: &mut [u8], stream: u32, kind: u32, option: u32, a: u32, b: u32) -> Answer {
+    unsafe { c::listening_open(store.as_mut_ptr(), store.len(), stream, kind, option, a, b) }
 }
 
 /// Enters a lot. Gives the verdict (1 accepted, 2 all heard, 3 returned or withheld), what is accepted, and the credit or level.

@@ -1,28 +1,21 @@
 -- The answers to a lot's record on a credit stream, one law for each. Assumes nothing.
-use Prim.Native.Nat.{ℕ, _+_, _-_, _*_, _≤_, _<_}
+use Prim.Native.Nat.{ℕ, _+_, _-_, _≤_, _<_}
 use mathlib.Core.Path.{_≡_, refl, ap, _∙_}
 use mathlib.Core.Bool.{Bool, true, false, cond, not, _&&_, _||_, and-false}
-use mathlib.Core.List.{List}
 use native.Mathlib.Omega.{arith}
 use lib.Dec.{eqb, leb·zero}
-use lib.ListN.{length}
 use borrow.Author.Tests.{eqb-true, eqb-false, eq-eqb, ne-eqb, le-leb, lt-leb}
-use Rattle.little.specs.Little.{value, part}
-use Rattle.little.proofs.Laws.{value-eight}
 use Rattle.plans.specs.Credit.{creditSample, creditVerdict, creditAfter}
 use Rattle.plans.specs.Verdicts.{lotHeard, lotWithheld, acceptedOf}
 use Rattle.model.specs.declared.Plan.{Plan}
-use Rattle.model.specs.Sizes.{recordLength, headerLength, mostRecords, areaLength}
 use Rattle.model.specs.Stations.{hasOption, within}
 use Rattle.model.specs.Calls.{countsAgree}
 use Rattle.model.proofs.Booleans.{both-true, within-of}
 use Rattle.records.specs.declared.Record.{Record}
-use Rattle.records.specs.Records.{recordIn, recordAt}
-use Rattle.records.proofs.Laws.{record-read}
-use Rattle.replaying.specs.Replaying.{headOf, isStop}
+use Rattle.replaying.specs.Replaying.{headOf, isStop, noneWrong}
 use Rattle.replay_credit.specs.declared.Carried.{Carried}
 use Rattle.replay_credit.specs.declared.Step.the-variants.{Stands, Fails}
-use Rattle.replay_credit.specs.Carrying.{stepIf, mayFollow, noneWrong, verdictIn, countsFit, afterLot, lotStep, stepOf}
+use Rattle.replay_credit.specs.Carrying.{stepIf, mayFollow, verdictIn, countsFit, afterLot, lotStep, stepOf}
 
 -- the range of all that was found wrong, by the verdict v on a lot of N with d wrong in a sample of n: the rule's last two parts
 abbrev byVerdict : ℕ → ℕ → ℕ → ℕ → ℕ → Bool
@@ -108,21 +101,3 @@ module _ (p : Plan) (s : Carried) (r : Record) where
     pub after-wrong : record { credit = 0; accepted = s .accepted + acceptedOf v (r .b) (r .d); newest = r .a } ≡ afterLot p s r
     unfolding afterLot creditAfter
     after-wrong = rw (judged, ne-eqb (r .c) 0 some)
-
--- ---- a lot's last two numbers read as one
-
-both-zero : (c d : ℕ) → eqb (c + d * 4294967296) 0 ≡ eqb c 0 && eqb d 0
-both-zero c d = go (eqb c 0) (eqb d 0) refl refl
-  where
-    go : (x y : Bool) → eqb c 0 ≡ x → eqb d 0 ≡ y → eqb (c + d * 4294967296) 0 ≡ x && y
-    go true true e g = eq-eqb (c + d * 4294967296) 0 (omega (arith, eqb-true c 0 e, eqb-true d 0 g))
-    go true false e g = ne-eqb (c + d * 4294967296) 0 (λ z. eqb-false d 0 g (omega arith))
-    go false y e g = ne-eqb (c + d * 4294967296) 0 (λ z. eqb-false c 0 e (omega arith))
-
-pub none-wrong-read : (area : List ℕ) (at i : ℕ) → at ≡ headerLength + recordLength * i → length area ≡ areaLength → i < mostRecords
-    → eqb (value (part (at + 12) 8 area)) 0 ≡ noneWrong (recordIn (recordAt area i))
-unfolding noneWrong
-none-wrong-read area at i e whole room =
-    let next : at + 12 + 4 ≡ at + 16 = omega arith in
-    rw (record-read area at i e room, ← value-eight (at + 12) area (omega arith), next)
-    (both-zero (value (part (at + 12) 4 area)) (value (part (at + 16) 4 area)))

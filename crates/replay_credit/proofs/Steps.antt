@@ -44,7 +44,7 @@ use Rattle.replay_credit.specs.Carrying.{
   lotStep,
   stepOf,
 }
-use Rattle.replay_credit.proofs.Stops.{stop-kind, stop-stands}
+use Rattle.replaying.proofs.Stops.{stop-kind, stop-stands}
 use Rattle.replay_credit.proofs.Foreign.{is-credit, not-level, not-continuous}
 
 -- a label is the newest lot's where it is the carried number

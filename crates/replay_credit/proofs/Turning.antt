@@ -1,43 +1,28 @@
 -- One turn of a credit stream's replay: from the step on the three numbers to the records that stand. Assumes nothing.
-use Prim.Native.Nat.{ℕ, _+_, _*_, _≤_, _<_}
+use Prim.Native.Nat.{ℕ, _+_, _≤_, _<_}
 use mathlib.Core.Path.{_≡_, refl, sym, ap, _∙_}
 use mathlib.Core.Bool.{true, false}
 use mathlib.Core.List.{List}
 use native.Mathlib.Omega.{arith}
 use lib.Dec.{T}
 use lib.ListN.{length}
-use Rattle.little.specs.Little.{part, AreBytes}
-use Rattle.little.proofs.Laws.{length-part, value-range}
+use Rattle.little.specs.Little.{AreBytes}
 use Rattle.model.specs.declared.Plan.{Plan}
-use Rattle.model.specs.Sizes.{recordLength, headerLength, areaLength}
+use Rattle.model.specs.Sizes.{areaLength}
 use Rattle.model.specs.Stations.{validPlan}
 use Rattle.model.specs.Area.{entriesIn}
 use Rattle.model.proofs.Allowed.{plan-range}
 use Rattle.model.proofs.FigureBounds.{FiguresWithin}
 use Rattle.records.specs.Records.{recordIn, recordAt}
-use Rattle.records.proofs.Laws.{part-bytes, record-read}
 use Rattle.replaying.specs.Replaying.{entered, soundAt, unsoundAt, recordsIn, figuresTo, standTo, Replayed}
+use Rattle.replaying.proofs.Heads.{kind-byte, flag-byte, label-word}
 use Rattle.replaying.proofs.Parts.{stand-admissible, figures-to-within}
 use Rattle.replaying.proofs.Turns.{turn-taken, turn-failed}
 use Rattle.replay_credit.specs.declared.Carried.{Carried}
 use Rattle.replay_credit.specs.declared.Step.the-variants.{Stands, Fails}
-use Rattle.replay_credit.specs.Carrying.{noLabel, figuresIn, carriedFrom, Bounded, stepOf}
+use Rattle.replay_credit.specs.Carrying.{figuresIn, carriedFrom, Bounded, stepOf}
 use Rattle.replay_credit.proofs.Foreign.{CreditOnly, entries-only, carried-same}
 use Rattle.replay_credit.proofs.Steps.{enteredAs, step-entered}
-
--- a record's bytes are below 256, its numbers below 2 ^ 32
-module _ (area : List ℕ) (i : ℕ) (whole : length area ≡ areaLength) (bytes : AreBytes area) (room : i < 128) where
-  kind-byte : recordIn (recordAt area i) .kind < 256
-  kind-byte = rw (record-read area (headerLength + recordLength * i) i refl room) (bytes _)
-
-  flag-byte : recordIn (recordAt area i) .flag < 256
-  flag-byte = rw (record-read area (headerLength + recordLength * i) i refl room) (bytes _)
-
-  label-word : recordIn (recordAt area i) .a < noLabel
-  label-word =
-      let at : ℕ = headerLength + recordLength * i + 4 in
-      rw (record-read area (headerLength + recordLength * i) i refl room)
-      (rw (length-part at 4 area (omega arith)) at (value-range (part at 4 area) (part-bytes at 4 area bytes)))
 
 module _ (p : Plan) (kind : p .kind ≡ 1) (valid : T (validPlan p)) (area : List ℕ) (whole : length area ≡ areaLength) (bytes : AreBytes area) where
   credit-only : (i : ℕ) → i ≤ 128 → standTo p area i ≡ true → CreditOnly (figuresTo p area i)

@@ -53,9 +53,6 @@ stepIf false s = Fails
 unfoldable pub mayFollow : Carried → Record → Bool
 mayFollow s r = not (eqb (r .a) (s .newest)) && within 1 1000000 (r .b)
 
-unfoldable pub noneWrong : Record → Bool
-noneWrong r = eqb (r .c) 0 && eqb (r .d) 0
-
 unfoldable pub verdictIn : Plan → Carried → Record → ℕ
 verdictIn p s r = creditVerdict (s .credit) (hasOption p) (r .c)
 

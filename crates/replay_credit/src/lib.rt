@@ -6,12 +6,11 @@ ghost use Prim.Native.Nat.{_<_};
 ghost use lib.ListN.{length};
 ghost use Rattle.model.specs.Sizes.{areaLength, mostRecords};
 ghost use Rattle.records.specs.Records.{recordIn, recordAt};
-ghost use Rattle.replaying.specs.Replaying.{Ready, Replayed, headOf, isStop};
+ghost use Rattle.replaying.specs.Replaying.{Ready, Replayed, noneWrong, isStop};
 ghost use Rattle.replay_credit.specs.Carrying.{
   figuresIn,
   carriedFrom,
   mayFollow,
-  noneWrong,
   lotStep,
   stepIf,
   stepOf,
@@ -108,14 +107,14 @@ fn enter(area: &[u8], plan: Plan, carried: Carried, i: usize) -> Step
     requires { ⌜ (length (now area) ≡ areaLength) × (i < mostRecords) × Bounded plan carried ⌝ }
     ensures { λ r. ⌜ r ≡ stepOf plan carried (recordIn (recordAt (now (area .entry)) i)) ⌝ }
 {
-    if head_at(area, i) != replaying::LOT {
+    if replaying::head_at(area, i) != replaying::LOT {
         return enter_stop(area, carried, i);
     }
     let read = records::get_record(area, i);
     if !may_follow(carried, read) {
         return Step::Fails;
     }
-    if !has_none_wrong(area, i) {
+    if !replaying::has_none_wrong(area, i) {
         return enter_wrong_lot(plan, carried, read);
     }
     Step::Stands(Carried {
@@ -123,13 +122,6 @@ fn enter(area: &[u8], plan: Plan, carried: Carried, i: usize) -> Step
         accepted: carried.accepted + read.b as u64,
         newest: read.a as u64,
     })
-}
-
-fn head_at(area: &[u8], i: usize) -> u32
-    requires { ⌜ (length (now area) ≡ areaLength) × (i < mostRecords) ⌝ }
-    ensures { λ r. ⌜ r ≡ headOf (recordIn (recordAt (now (area .entry)) i)) ⌝ }
-{
-    replaying::head_of(records::get_record(area, i))
 }
 
 // Paper 01, "Calls", Stop: on credit streams it is entered without effect.
@@ -152,15 +144,6 @@ fn may_follow(carried: Carried, read: Record) -> bool
         return false;
     }
     plan::within(1, 1000000, read.b)
-}
-
-// Is nothing wrong in the sample, nor in all that was heard? The two counts are read as one number, so that one comparison tells.
-fn has_none_wrong(area: &[u8], i: usize) -> bool
-    requires { ⌜ (length (now area) ≡ areaLength) × (i < mostRecords) ⌝ }
-    ensures { λ r. ⌜ r ≡ noneWrong (recordIn (recordAt (now (area .entry)) i)) ⌝ }
-{
-    let at = records::HEADER_LENGTH + records::RECORD_LENGTH * i;
-    little::get_u64(area, at + 12) == 0
 }
 
 // Only a lot with something wrong has its sample worked out: what refusal 13 leaves of it, and what it then changes.

@@ -1,12 +1,19 @@
 -- A record's first four bytes as one number, and the stops among the records. Assumes nothing.
-use Prim.Native.Nat.{ℕ, _+_, _*_, _<_}
-use mathlib.Core.Path.{_≡_, sym, _∙_}
-use mathlib.Core.Bool.{true, false}
+use Prim.Native.Nat.{ℕ, _+_, _*_, _^_, _<_}
+use mathlib.Core.Path.{_≡_, refl, sym, _∙_}
+use mathlib.Core.Bool.{Bool, true, false, _&&_}
+use mathlib.Core.List.{List}
 use native.Mathlib.Omega.{arith}
 use lib.Dec.{eqb, leb}
-use borrow.Author.Tests.{eq-eqb, ne-eqb}
+use lib.ListN.{length}
+use borrow.Author.Tests.{eqb-true, eqb-false, eq-eqb, ne-eqb}
+use Rattle.little.specs.Little.{value, part, AreBytes}
+use Rattle.little.proofs.Laws.{length-part, value-range, value-eight}
+use Rattle.model.specs.Sizes.{recordLength, headerLength, mostRecords, areaLength}
 use Rattle.records.specs.declared.Record.{Record}
-use Rattle.replaying.specs.Replaying.{headOf, isStop}
+use Rattle.records.specs.Records.{recordIn, recordAt}
+use Rattle.records.proofs.Laws.{part-bytes, record-read}
+use Rattle.replaying.specs.Replaying.{headOf, isStop, noneWrong}
 
 -- the head says kind, flag and the two zero bytes
 pub head-is : (r : Record) (k w : ℕ) → r .kind < 256 → r .flag < 256 → k < 256 → w < 256 → headOf r ≡ k + w * 256
@@ -44,3 +51,33 @@ module _ (r : Record) where
     is-none p q =
         rw (eq-eqb (r .b) 0 b, eq-eqb (r .c) 0 c, eq-eqb (r .d) 0 d)
         (rw (ne-eqb (headOf r) 260 (λ z. p (same ∙ z)), ne-eqb (headOf r) 516 (λ z. q (same ∙ z))))
+
+both-zero : (c d : ℕ) → eqb (c + d * 4294967296) 0 ≡ eqb c 0 && eqb d 0
+both-zero c d = go (eqb c 0) (eqb d 0) refl refl
+  where
+    go : (x y : Bool) → eqb c 0 ≡ x → eqb d 0 ≡ y → eqb (c + d * 4294967296) 0 ≡ x && y
+    go true true e g = eq-eqb (c + d * 4294967296) 0 (omega (arith, eqb-true c 0 e, eqb-true d 0 g))
+    go true false e g = ne-eqb (c + d * 4294967296) 0 (λ z. eqb-false d 0 g (omega arith))
+    go false y e g = ne-eqb (c + d * 4294967296) 0 (λ z. eqb-false c 0 e (omega arith))
+
+pub none-wrong-read : (area : List ℕ) (at i : ℕ) → at ≡ headerLength + recordLength * i → length area ≡ areaLength → i < mostRecords
+    → eqb (value (part (at + 12) 8 area)) 0 ≡ noneWrong (recordIn (recordAt area i))
+unfolding noneWrong
+none-wrong-read area at i e whole room =
+    let next : at + 12 + 4 ≡ at + 16 = omega arith in
+    rw (record-read area at i e room, ← value-eight (at + 12) area (omega arith), next)
+    (both-zero (value (part (at + 12) 4 area)) (value (part (at + 16) 4 area)))
+
+-- a record's bytes are below 256, its numbers below 2 ^ 32
+module _ (area : List ℕ) (i : ℕ) (whole : length area ≡ areaLength) (bytes : AreBytes area) (room : i < 128) where
+  pub kind-byte : recordIn (recordAt area i) .kind < 256
+  kind-byte = rw (record-read area (headerLength + recordLength * i) i refl room) (bytes _)
+
+  pub flag-byte : recordIn (recordAt area i) .flag < 256
+  flag-byte = rw (record-read area (headerLength + recordLength * i) i refl room) (bytes _)
+
+  pub label-word : recordIn (recordAt area i) .a < 2 ^ 32
+  label-word =
+      let at : ℕ = headerLength + recordLength * i + 4 in
+      rw (record-read area (headerLength + recordLength * i) i refl room)
+      (rw (length-part at 4 area (omega arith)) at (value-range (part at 4 area) (part-bytes at 4 area bytes)))

@@ -3,4 +3,5 @@ pub mod Heads
 pub mod RecordForm
 pub mod Parts
 pub mod Answers
+pub mod Stops
 pub mod Turns

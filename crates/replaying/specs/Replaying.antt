@@ -43,6 +43,10 @@ isStop r =
     (eqb (r .b) 0 && eqb (r .c) 0 && eqb (r .d) 0)
     && cond (eqb (headOf r) 260) (leb (r .a) 255) (eqb (headOf r) 516 && eqb (r .a) 0)
 
+-- a lot's record with nothing wrong in the sample, nor in all that was heard
+unfoldable pub noneWrong : Record → Bool
+noneWrong r = eqb (r .c) 0 && eqb (r .d) 0
+
 -- a record without a second, third or fourth number
 pub record NoMore (r : Record) : Type 0 where
   pub noSecond : r .b ≡ 0

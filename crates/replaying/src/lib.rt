@@ -2,7 +2,10 @@
 // crate for each plan; here are the definitions and laws that they share.
 ghost use mathlib.Core.Path.{_≡_};
 ghost use Prim.Native.Nat.{_<_};
-ghost use Rattle.replaying.specs.Replaying.{headOf, isStop};
+ghost use lib.ListN.{length};
+ghost use Rattle.model.specs.Sizes.{areaLength, mostRecords};
+ghost use Rattle.records.specs.Records.{recordIn, recordAt};
+ghost use Rattle.replaying.specs.Replaying.{headOf, isStop, noneWrong};
 use model::Figures;
 use records::Record;
 
@@ -56,4 +59,21 @@ pub fn is_stop(head: u32, read: Record) -> bool
         return read.a == 0;
     }
     false
+}
+
+// The head of the i-th record, from 0.
+pub fn head_at(area: &[u8], i: usize) -> u32
+    requires { ⌜ (length (now area) ≡ areaLength) × (i < mostRecords) ⌝ }
+    ensures { λ r. ⌜ r ≡ headOf (recordIn (recordAt (now (area .entry)) i)) ⌝ }
+{
+    head_of(records::get_record(area, i))
+}
+
+// Is nothing wrong in the sample of the i-th record, a lot's, nor in all that was heard? The two counts are read as one number, so that one comparison tells.
+pub fn has_none_wrong(area: &[u8], i: usize) -> bool
+    requires { ⌜ (length (now area) ≡ areaLength) × (i < mostRecords) ⌝ }
+    ensures { λ r. ⌜ r ≡ noneWrong (recordIn (recordAt (now (area .entry)) i)) ⌝ }
+{
+    let at = records::HEADER_LENGTH + records::RECORD_LENGTH * i;
+    little::get_u64(area, at + 12) == 0
 }

@@ -1,10 +1,11 @@
+use Rattle.replaying.specs.Replaying.{noneWrong}
 use mathlib.Core.Path.{_≡_, sym, ap, _∙_}
 use mathlib.Core.Bool.{true}
 use native.Mathlib.Omega.{arith}
 use borrow.Author.Needs.{needs}
 use borrow.Author.Tests.{not-true, not-false}
 use Rattle.records.specs.Records.{recordIn, recordAt}
-use Rattle.replay_credit.specs.Carrying.{mayFollow, noneWrong, lotStep, stepOf}
+use Rattle.replay_credit.specs.Carrying.{mayFollow, lotStep, stepOf}
 use Rattle.replay_credit.proofs.Lots.{size-in-range, lot-step, stop-step, not-following, good-lot}
 use Rattle.replay_credit.proofs.enter.Statement.{statement}
 use Rattle.replay_credit.proofs.enter.Tie as tie

@@ -1,8 +1,8 @@
 use mathlib.Core.Path.{ap, _∙_}
 use Rattle.replaying.specs.Replaying.{headOf}
 use borrow.Author.Needs.{needs}
-use Rattle.replay_credit.proofs.head_at.Statement.{statement}
-use Rattle.replay_credit.proofs.head_at.Tie as tie
+use Rattle.replaying.proofs.head_at.Statement.{statement}
+use Rattle.replaying.proofs.head_at.Tie as tie
 
 get-record-requires : tie.Need-get-record-requires
 get-record-requires c κs = search needs

@@ -1,8 +1,8 @@
 use mathlib.Core.Path.{refl}
-use Rattle.replay_credit.proofs.Lots.{none-wrong-read}
+use Rattle.replaying.proofs.Heads.{none-wrong-read}
 use borrow.Author.Needs.{needs}
-use Rattle.replay_credit.proofs.has_none_wrong.Statement.{statement}
-use Rattle.replay_credit.proofs.has_none_wrong.Tie as tie
+use Rattle.replaying.proofs.has_none_wrong.Statement.{statement}
+use Rattle.replaying.proofs.has_none_wrong.Tie as tie
 
 mul-at : tie.Need-mul-at
 mul-at c = search needs
