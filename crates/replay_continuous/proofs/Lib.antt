@@ -1,0 +1,5 @@
+-- Laws of a continuous stream's records and state.
+pub mod Kept
+pub mod Entering
+pub mod Phases
+pub mod Turning

@@ -1,0 +1,2 @@
+-- A continuous stream as its replay carries it.
+pub mod Places
