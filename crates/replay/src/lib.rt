@@ -24,8 +24,21 @@ pub struct Standing {
     pub before: Figures,
 }
 
-// The figures after more of an area's records, and whether each of these could stand.
+// The figures after more of an area's records, and whether each of these could stand: a loop for each plan.
 pub fn replay(area: &[u8], plan: Plan, figures: Figures, from: usize, to: usize) -> Entered
+    requires { ⌜ Ready plan (now area) figures from to ⌝ }
+    ensures { λ r. ⌜ Replayed plan (now (area .entry)) to r ⌝ }
+{
+    if plan.kind == plan::CREDIT {
+        return replay_credit::replay(area, plan, figures, from, to);
+    }
+    if plan.kind == plan::LEVEL {
+        return replay_any(area, plan, figures, from, to);
+    }
+    replay_continuous::replay(area, plan, figures, from, to)
+}
+
+fn replay_any(area: &[u8], plan: Plan, figures: Figures, from: usize, to: usize) -> Entered
     requires { ⌜ Ready plan (now area) figures from to ⌝ }
     ensures { λ r. ⌜ Replayed plan (now (area .entry)) to r ⌝ }
 {
