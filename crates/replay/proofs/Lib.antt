@@ -1,2 +1,3 @@
--- Laws of what an area says.
+-- Laws of what an area says, and of figures that are lent.
+pub mod Lent
 pub mod Readings

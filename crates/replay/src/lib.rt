@@ -24,8 +24,32 @@ pub struct Standing {
     pub before: Figures,
 }
 
-// The figures after more of an area's records, and whether each of these could stand: a loop for each plan.
+// The figures after more of an area's records, and whether each of these could stand. The figures are lent to `bring` here alone,
+// so no other caller has a reference to them.
 pub fn replay(area: &[u8], plan: Plan, figures: Figures, from: usize, to: usize) -> Entered
+    requires { ⌜ Ready plan (now area) figures from to ⌝ }
+    ensures { λ r. ⌜ Replayed plan (now (area .entry)) to r ⌝ }
+{
+    let mut brought = figures;
+    let sound = bring(&mut brought, area, plan, from, to);
+    Entered {
+        sound,
+        figures: brought,
+    }
+}
+
+// Brings one stream's figures up to date with more of its area's records; answers whether each of these could stand.
+fn bring(figures: &mut Figures, area: &[u8], plan: Plan, from: usize, to: usize) -> bool
+    requires { ⌜ Ready plan (now area) (now figures) from to ⌝ }
+    ensures { λ r. ⌜ Replayed plan (now (area .entry)) to (record { sound = r; figures = now (figures .exit) }) ⌝ }
+{
+    let step = replay_records(area, plan, *figures, from, to);
+    *figures = step.figures;
+    step.sound
+}
+
+// The same with the figures by value: a loop for each plan.
+fn replay_records(area: &[u8], plan: Plan, figures: Figures, from: usize, to: usize) -> Entered
     requires { ⌜ Ready plan (now area) figures from to ⌝ }
     ensures { λ r. ⌜ Replayed plan (now (area .entry)) to r ⌝ }
 {
@@ -89,7 +113,7 @@ fn read_records(area: &[u8], plan: Plan, count: usize, newest: usize) -> Standin
         return nothing(false);
     }
     let before = older.figures;
-    let all = replay(area, plan, before, first, count);
+    let all = replay_newest(area, plan, before, first, count);
     if !all.sound {
         return nothing(false);
     }
@@ -111,6 +135,20 @@ fn read_records(area: &[u8], plan: Plan, count: usize, newest: usize) -> Standin
         figures,
         before,
     }
+}
+
+// The replay of the newest records. Most calls set none apart, and are spared a second replay.
+fn replay_newest(area: &[u8], plan: Plan, figures: Figures, from: usize, to: usize) -> Entered
+    requires { ⌜ Ready plan (now area) figures from to ⌝ }
+    ensures { λ r. ⌜ Replayed plan (now (area .entry)) to r ⌝ }
+{
+    if from == to {
+        return Entered {
+            sound: true,
+            figures,
+        };
+    }
+    replay(area, plan, figures, from, to)
 }
 
 // How many records stand before the newest.

@@ -39,8 +39,8 @@ returns c =
     (omega (arith, c .before .before .before .before .before .without .ensures)) (c .before .before .before .replay .ensures)
     (not-true (c .before .before .before .replay .result .sound) (c .before .if1 .taken))
 
-replay-requires-2 : tie.Need-replay-requires-2
-replay-requires-2 c κs =
+replay-newest-requires : tie.Need-replay-newest-requires
+replay-newest-requires c κs =
     let start = c .before .before .before .before .before .before .before .args in
     let header = c .before .before .before .before .before .before .before .pre in
     let older = c .before .before .before .replay in
@@ -62,9 +62,9 @@ returns-2 c =
     let start = c .before .before .before .before .before .before .before .before .before .before .before .args in
     let header = c .before .before .before .before .before .before .before .before .before .before .before .pre in
     c .nothing2 .ensures
-    ∙ says-failed (start .newest) (start .area .now) (start .plan) (start .count) header (c .before .before .before .replay2 .result) _
-    (omega arith) (c .before .before .before .replay2 .ensures)
-    (not-true (c .before .before .before .replay2 .result .sound) (c .before .if2 .taken))
+    ∙ says-failed (start .newest) (start .area .now) (start .plan) (start .count) header (c .before .before .before .replay-newest .result) _
+    (omega arith) (c .before .before .before .replay-newest .ensures)
+    (not-true (c .before .before .before .replay-newest .result .sound) (c .before .if2 .taken))
 
 has-figures-requires : tie.Need-has-figures-requires
 has-figures-requires c κs = search needs
@@ -76,7 +76,7 @@ returns-3 : tie.Need-returns-3
 returns-3 c =
     let start = c .before .before .before .before .before .before .before .before .before .before .before .before .before .before .args in
     let header = c .before .before .before .before .before .before .before .before .before .before .before .before .before .before .pre in
-    let all = c .before .before .before .before .before .before .replay2 in
+    let all = c .before .before .before .before .before .before .replay-newest in
     let sound = not-false (all .result .sound) (c .before .before .before .before .if2 .left) in
     let test = c .before .before .has-figures in
     c .nothing3 .ensures
@@ -99,7 +99,7 @@ returns-4 : tie.Need-returns-4
 returns-4 c =
     let start = c .before .before .before .before .before .before .before .before .before .before .before .before .before .before .before .before .args in
     let header = c .before .before .before .before .before .before .before .before .before .before .before .before .before .before .before .before .pre in
-    let all = c .before .before .before .before .before .before .before .before .replay2 in
+    let all = c .before .before .before .before .before .before .before .before .replay-newest in
     let sound = not-false (all .result .sound) (c .before .before .before .before .before .before .if2 .left) in
     let test = c .before .before .is-zero-from in
     c .nothing4 .ensures
@@ -110,7 +110,7 @@ returns-5 : tie.Need-returns-5
 returns-5 c =
     let start = c .before .before .before .before .before .before .before .before .before .before .before .before .before .before .before .args in
     let header = c .before .before .before .before .before .before .before .before .before .before .before .before .before .before .before .pre in
-    let all = c .before .before .before .before .before .before .before .replay2 in
+    let all = c .before .before .before .before .before .before .before .replay-newest in
     let sound = not-false (all .result .sound) (c .before .before .before .before .before .if2 .left) in
     let older = c .before .before .before .before .before .before .before .before .before .before .before .replay in
     let first = c .before .before .before .before .before .before .before .before .before .before .before .before .before .without .ensures in
@@ -132,7 +132,7 @@ read-records-spec =
     replay-requires
     nothing-requires
     returns
-    replay-requires-2
+    replay-newest-requires
     nothing-requires-2
     returns-2
     has-figures-requires
