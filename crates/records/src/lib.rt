@@ -162,12 +162,12 @@ pub fn has_figures(area: &[u8], figures: Figures) -> bool
 // Is every byte zero from an index on? The loop looks for the largest and runs to its end whatever it finds: so it is compiled to
 // steps of many bytes.
 pub fn is_zero_from(area: &[u8], from: usize) -> bool
-    requires { ⌜ from ≤ length (now area) ⌝ }
+    requires { ⌜ (length (now area) ≡ areaLength) × (from ≤ areaLength) ⌝ }
     ensures { λ r. ⌜ Decides r (drop from (now (area .entry)) ≡ zeros (length (now (area .entry)) - from)) ⌝ }
 {
     let mut most: u8 = 0;
     let mut i = from;
-    while i < area.len() {
+    while i < AREA_LENGTH {
         if most < area[i] {
             most = area[i];
         }

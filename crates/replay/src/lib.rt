@@ -15,13 +15,15 @@ use rules::plan;
 
 // What an area says: whether it is sound, whether the stream is opened, and if so with which plan, how many records stand, the
 // figures after them, and the figures before the newest of them.
+//
+// The two flags come last, so that the rest is copied in whole words.
 pub struct Standing {
-    pub sound: bool,
-    pub opened: bool,
     pub plan: Plan,
-    pub count: usize,
     pub figures: Figures,
     pub before: Figures,
+    pub count: usize,
+    pub sound: bool,
+    pub opened: bool,
 }
 
 // The figures after more of an area's records, and whether each of these could stand. The figures are lent to `bring` here alone,

@@ -10,6 +10,7 @@ use Prim.Native.Nat.{ℕ, _+_, _-_, _≤_, _<_}
 use native.Mathlib.Omega.{arith}
 use lib.ListN.{length, drop, getD, length-drop, length-replicate, getD-replicate}
 use lib.Seq.{getD-drop, ext-getD}
+use Rattle.model.specs.Sizes.{areaLength}
 use Rattle.model.specs.Area.{zeros}
 use Rattle.records.specs.Records.{Decides}
 use Rattle.records.proofs.is_zero_from.Statement.{statement}
@@ -25,10 +26,10 @@ AtMost area from to most = (k : ℕ) → k < to → from ≤ k → getD area k 0
 
 abbrev Inv-loop : tie.InvT-loop
 Inv-loop area from most₀ i₀ most i =
-    (from ≤ i) × (i ≤ length area) × AtMost area from i most × (ZeroBelow area from i → most ≡ 0)
+    (from ≤ i) × (i ≤ areaLength) × AtMost area from i most × (ZeroBelow area from i → most ≡ 0)
 
 abbrev μ-loop : tie.MeasureT-loop
-μ-loop area from most₀ i₀ most i = length area - i
+μ-loop area from most₀ i₀ most i = areaLength - i
 
 rest-zero : (area : List ℕ) (from to : ℕ) → to ≡ length area → ZeroBelow area from to → drop from area ≡ zeros (length area - from)
 rest-zero area from to e all =
