@@ -1,6 +1,8 @@
 //! Measures the eight calls and the frames program, beside the same in safe Rust, and prints the tables in Markdown.
 //!
 //!     bench [calls | program]
+//!
+//! With LEAST naming a file, the least times of the calls are put there, and those of earlier runs that are there count too.
 
 use bench::agreement::agrees;
 use bench::streams::{measured, Stream, CALLS, ENTRIES, STREAMS};
@@ -16,7 +18,7 @@ const STREAM: u32 = 5;
 const PASSES: usize = 6;
 const ROUNDS: usize = 25;
 const CALLS_A_ROUND: usize = 100;
-// No smaller difference counts, however steady the times are: where the linker puts a loop makes as much.
+// No smaller difference counts, however steady the times are.
 const LEAST_NOISE: f64 = 0.03;
 
 const SEEDS: u64 = 24;
@@ -26,7 +28,21 @@ const FRAMES: usize = 1_000_000;
 const PROGRAM_ROUNDS: usize = 7;
 const MOST_MEMORY_ABOVE_C: u64 = 2 * 1024;
 
+// So many bytes before the code that is measured: see build.rs.
+std::arch::global_asm!(
+    ".section .text.placed, \"ax\"",
+    ".globl placed",
+    "placed:",
+    concat!(".skip ", env!("PLACE")),
+    ".text"
+);
+
+extern "C" {
+    fn placed();
+}
+
 fn main() -> ExitCode {
+    std::hint::black_box(placed as *const () as usize);
     let part = std::env::args().nth(1);
     let wants = |name: &str| part.as_deref().is_none_or(|part| part == name);
     let mut targets = Vec::new();
@@ -94,6 +110,9 @@ fn calls() -> Result<Target, String> {
             }
         }
     }
+    if let Some(file) = std::env::var_os("LEAST") {
+        add_earlier(&mut rows, Path::new(&file)).map_err(|error| format!("the earlier times: {error}"))?;
+    }
     let noise = noise(&rows);
     print_calls(&rows, noise);
     print_growth(&rows);
@@ -104,6 +123,17 @@ fn calls() -> Result<Target, String> {
         rows.len()
     );
     Ok((target, slower == 0))
+}
+
+// Adds the least times of earlier runs, a line for each row, and puts those of all runs in their place.
+fn add_earlier(rows: &mut [Row], file: &Path) -> io::Result<()> {
+    let earlier = std::fs::read_to_string(file).unwrap_or_default();
+    for (row, line) in rows.iter_mut().zip(earlier.lines()) {
+        row.timed
+            .add_least(line.split_whitespace().filter_map(|time| time.parse().ok()));
+    }
+    let line = |row: &Row| row.timed.least().iter().map(|time| format!("{time} ")).collect::<String>();
+    std::fs::write(file, rows.iter().map(|row| line(row) + "\n").collect::<String>())
 }
 
 fn rows() -> Result<Vec<Row>, String> {
@@ -141,7 +171,8 @@ fn print_calls(rows: &[Row], noise: f64) {
 Time of one call in ns, warm: the same store again and again, its area in the cache. Ours: the proved calls, by their Rust wrapper.
 (a): the independent implementation. (b): safe Rust written for speed. (c): the floor, one pass that adds up the area's 2,608 bytes
 in words of eight. {PASSES} passes over all rows; in each, {ROUNDS} rounds of {CALLS_A_ROUND} calls of ours, (b), (a) (one call),
-(b) again and (c). The best round counts, and ± is how far the median lies above it. After a call that changes the store, the
+(b) again and (c), with the code at each of four places in memory. The best round counts, and ± is how far the median at the last
+place lies above it. After a call that changes the store, the
 header and the record are put back from a copy; that alone is measured too, and taken off all times. Refusal 7: such a plan has no
 such call; 9: no place is free.
 

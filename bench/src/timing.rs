@@ -119,6 +119,19 @@ impl Timed {
     pub fn spread(&self, k: usize) -> f64 {
         self.times[k].spread()
     }
+
+    /// The least times, to be added to those of the same code at another place.
+    pub fn least(&self) -> Vec<f64> {
+        let rest = [&self.restoring, &self.floor];
+        self.times.iter().chain(rest).map(Times::best).collect()
+    }
+
+    pub fn add_least(&mut self, times: impl Iterator<Item = f64>) {
+        let rest = [&mut self.restoring, &mut self.floor];
+        for (kept, time) in self.times.iter_mut().chain(rest).zip(times) {
+            kept.add(time);
+        }
+    }
 }
 
 #[inline(never)]
