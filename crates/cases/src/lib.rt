@@ -59,7 +59,7 @@ fn credit_sample(credit: u32, size: u32, limit: u32) -> u32
     Credit(credit).sample(LotSize(size), limit).0
 }
 
-fn level_sample(vl: u32, severity: u8, size: u32) -> u32
+fn level_sample(vl: u32, severity: u32, size: u32) -> u32
     requires { ⌜ (1 ≤ vl) × (vl ≤ 7) ⌝ }
     ensures { λ r. ⌜ r ≡ levelSample vl severity size ⌝ }
 {

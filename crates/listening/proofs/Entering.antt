@@ -21,11 +21,13 @@ use Rattle.model.specs.Area.{planBytes, figureBytes, recordOf, recordsOf}
 use Rattle.model.proofs.Allowed.{room-for}
 use Rattle.model.proofs.Keeping.{entry-admissible}
 use Rattle.model.proofs.AreaReading.{length-record, length-records}
+use Rattle.model.proofs.FigureBounds.{stepped-within}
+use Rattle.records.specs.Records.{LevelFits}
 use Rattle.replaying.specs.declared.Entered.{Entered}
 use Rattle.replaying.specs.Replaying.{recordsIn, figuresTo, standTo, Ready, Replayed}
 use Rattle.replaying.proofs.Parts.{stand-of, figures-of-records}
 use Rattle.replay.specs.declared.Standing.{Standing}
-use Rattle.listening.proofs.OnReading.{OpenedAt, read-plan, read-entries, read-area}
+use Rattle.listening.proofs.OnReading.{OpenedAt, read-plan, read-entries, read-area, read-figures, level-fits}
 use Rattle.listening.proofs.Rewriting.{unused, recorded-area}
 
 -- behind a header stand the records
@@ -82,3 +84,10 @@ module _ (area : List ℕ) (s : Standing) (es : List Entry) (at : OpenedAt area 
       let sound : r .sound ≡ true = replayed .allStand ∙ ap (standTo (s .plan) after) more ∙ stand in
       replayed .figuresAfter sound
       ∙ rw (more, at .brought) (figures-of-records (s .plan) (e ∷ es) after _ records entries)
+
+  -- and their level figures are bytes
+  pub entry-fits : T (allWords (entryArguments e)) → (r : Entered) → Replayed (s .plan) after (s .count + 1) r → LevelFits (r .figures .level)
+  entry-fits words r replayed =
+      rw (entry-brings words r replayed)
+      (level-fits (suc (s .count)) _ (omega (arith, room, at .counted))
+      (stepped-within (s .plan) e (s .figures) (s .count) (read-plan area s es at) none words (read-figures area s es at)))

@@ -1,21 +1,24 @@
 -- What is known of an area once it has been read. Assumes nothing.
-use Prim.Native.Nat.{ℕ, _≤_}
+use Prim.Native.Nat.{ℕ, zero, suc, _≤_}
 use mathlib.Core.Path.{_≡_, refl, sym, ap, _∙_}
 use mathlib.Core.Bool.{true, false}
-use mathlib.Core.List.{List}
+use mathlib.Core.List.{List, [], _∷_}
 use native.Mathlib.Omega.{arith}
 use lib.Dec.{T}
 use lib.ListN.{length, drop}
+use Rattle.model.specs.declared.Plan.{Plan}
 use Rattle.model.specs.declared.Entry.{Entry}
+use Rattle.model.specs.declared.Figures.{Figures}
 use Rattle.model.specs.Stations.{unopened, opened, validPlan}
-use Rattle.model.specs.Figuring.{figuresOf}
+use Rattle.model.specs.Figuring.{started, figuresOf}
 use Rattle.model.specs.Calls.{admissible}
 use Rattle.model.specs.Area.{areaOf, Reading, unsound, holds, reading}
 use Rattle.model.proofs.Booleans.{never-both}
-use Rattle.model.proofs.Allowed.{count-within}
+use Rattle.model.proofs.Allowed.{newest-of, count-within}
 use Rattle.model.proofs.AreaReading.{area-of-reading}
 use Rattle.model.proofs.FigureBounds.{FiguresWithin, figures-within}
 use Rattle.model.proofs.Keeping.{plan-of, entries-of}
+use Rattle.records.specs.Records.{LevelFits}
 use Rattle.replay.specs.declared.Standing.{Standing}
 use Rattle.replay.specs.Standing.{nothingStands, standingOf}
 
@@ -88,3 +91,27 @@ module _ (area : List ℕ) (s : Standing) (es : List Entry) (at : OpenedAt area 
 
   pub read-figures : FiguresWithin (s .count) (s .figures)
   read-figures = rw (at .counted, at .brought) (figures-within (s .plan) es read-plan read-entries)
+
+-- ---- the level figures are bytes
+
+pub level-fits : (n : ℕ) (f : Figures) → n ≤ 128 → FiguresWithin n f → LevelFits (f .level)
+level-fits n f h known =
+    let within = known .levels in
+    record { levels = omega arith; rows = omega arith; judgedLots = omega arith; windows = omega arith }
+
+pub started-fits : (p : Plan) → T (validPlan p) → LevelFits (started p .level)
+unfolding figuresOf admissible
+started-fits p valid = level-fits 0 (started p) (omega arith) (figures-within p [] valid tt)
+
+without-newest : (p : Plan) (k : ℕ) (es : List Entry) → T (admissible p es) → T (admissible p (drop k es))
+unfolding admissible
+without-newest p zero es t = t
+without-newest p (suc k) [] t = t
+without-newest p (suc k) (e ∷ es) t = without-newest p k es (newest-of p e es t .others)
+
+pub before-fits : (newest : ℕ) (area : List ℕ) (s : Standing) → s ≡ standingOf newest (reading area) → (es : List Entry)
+    → OpenedAt area s es → LevelFits (s .before .level)
+before-fits newest area s said es at =
+    let older = without-newest (s .plan) newest es (read-entries area s es at) in
+    rw (read-before newest area s said es at)
+    (level-fits _ _ (count-within (s .plan) (drop newest es) older) (figures-within (s .plan) (drop newest es) (read-plan area s es at) older))

@@ -9,6 +9,7 @@ ghost use Rattle.model.specs.Sizes.{areaLength, recordLength, headerLength};
 ghost use Rattle.model.specs.Stations.{entryArguments, allWords};
 ghost use Rattle.model.specs.Figuring.{stepped};
 ghost use Rattle.model.specs.Area.{zeros, figureBytes, recordOf, onArea};
+ghost use Rattle.records.specs.Records.{LevelFits};
 ghost use Rattle.listening.specs.Written.{rewritten, FlagFits, Takes};
 use model::Answer;
 use model::Call;
@@ -156,7 +157,7 @@ fn put_entry(area: &mut [u8], standing: Standing, entry: Entry) -> Figures
 
 // Clears the last record, and writes the figures before it.
 fn clear_entry(area: &mut [u8], last: usize, figures: Figures)
-    requires { ⌜ (length (now area) ≡ areaLength) × (last < 128) ⌝ }
+    requires { ⌜ (length (now area) ≡ areaLength) × (last < 128) × LevelFits (figures .level) ⌝ }
     ensures { λ _. ⌜ now (area .exit) ≡ rewritten last (zeros recordLength) last figures (now (area .entry)) ⌝ }
 {
     records::clear_record(area, last);
@@ -165,7 +166,7 @@ fn clear_entry(area: &mut [u8], last: usize, figures: Figures)
 
 // Writes the count of standing records, and the figures after them.
 fn put_standing(area: &mut [u8], count: usize, figures: Figures)
-    requires { ⌜ (length (now area) ≡ areaLength) × (count ≤ 128) ⌝ }
+    requires { ⌜ (length (now area) ≡ areaLength) × (count ≤ 128) × LevelFits (figures .level) ⌝ }
     ensures { λ _. ⌜ now (area .exit) ≡ written 16 (figureBytes figures) (written 2 (bytes 2 count) (now (area .entry))) ⌝ }
 {
     records::put_count(area, count);

@@ -2,3 +2,5 @@
 pub mod RoundedUp
 pub mod Rows
 pub mod Bounds
+pub mod Below
+pub mod Judging

@@ -1,39 +1,26 @@
 // The moves between levels: paper 01, "Level lots".
 ghost use mathlib.Core.Path.{_≡_};
+ghost use mathlib.Core.Bool.{Bool, true, false};
 ghost use Prim.Native.Nat.{_<_};
-ghost use Rattle.plans.specs.Levels.{
-  levelStart,
-  lengthened,
-  judgedOnTightened,
-  shifted,
-  withheldIn,
-  counted as countedLot,
-  arrived,
-  afterNormal,
-  afterTightened,
-  afterReduced,
-  levelAfter,
-  judgedLot,
-  metStop,
-};
+ghost use Rattle.plans.specs.Levels.{levelStart, shifted, withheldIn, arrived, judgedLot, metStop};
 
-pub const REDUCED: u8 = 0;
+pub const REDUCED: u32 = 0;
 
-pub const NORMAL: u8 = 1;
+pub const NORMAL: u32 = 1;
 
-pub const TIGHTENED: u8 = 2;
+pub const TIGHTENED: u32 = 2;
 
-pub const DISCONTINUED: u8 = 3;
+pub const DISCONTINUED: u32 = 3;
 
-// A level stream's state: bytes 20 to 23 of its area.
+// A level stream's state: bytes 20 to 23 of its area. Its numbers are as wide as a register, so that a replay keeps each in one.
 pub struct LevelState {
-    pub level: u8,
+    pub level: u32,
     // accepted lots in an unbroken row judged at this level since arriving
-    pub row: u8,
+    pub row: u32,
     // lots judged on tightened since arriving, 0 at other levels
-    pub judged: u8,
+    pub judged: u32,
     // which of the last five lots were withheld, newest in bit 0
-    pub window: u8,
+    pub window: u32,
 }
 
 impl LevelState {
@@ -53,16 +40,24 @@ impl LevelState {
         requires { ⌜ (self .row < 255) × (self .judged < 255) ⌝ }
         ensures { λ r. ⌜ r ≡ judgedLot «permits_reduced» withheld self ⌝ }
     {
-        self = self.counted(withheld);
-        let level = self.level_after(permits_reduced);
-        if level == self.level {
+        if withheld {
+            self = self.withhold();
             return self;
         }
-        self.arrive(level)
+        if self.level == NORMAL {
+            self = self.accept_on_normal(permits_reduced);
+            return self;
+        }
+        if self.level == TIGHTENED {
+            self = self.accept_on_tightened();
+            return self;
+        }
+        self = self.accept_elsewhere();
+        self
     }
 
     // Arrives at a level.
-    pub fn arrive(mut self, level: u8) -> Self
+    pub fn arrive(mut self, level: u32) -> Self
         ensures { λ r. ⌜ r ≡ arrived level self ⌝ }
     {
         self.level = level;
@@ -88,88 +83,84 @@ impl LevelState {
         self
     }
 
-    // The state with one lot more, judged at its level.
-    fn counted(mut self, withheld: bool) -> Self
-        requires { ⌜ (self .row < 255) × (self .judged < 255) ⌝ }
-        ensures { λ r. ⌜ r ≡ countedLot withheld self ⌝ }
+    // An accepted lot on normal: two withheld ones in the window lead to tightened, ten accepted in a row to reduced.
+    fn accept_on_normal(mut self, permits_reduced: bool) -> Self
+        requires { ⌜ (self .level ≡ 1) × (self .row < 255) ⌝ }
+        ensures { λ r. ⌜ r ≡ judgedLot «permits_reduced» false self ⌝ }
     {
-        self.row = lengthen(self.row, withheld);
-        self.judged = count_tightened(self.level, self.judged);
-        self.window = shift_in(self.window, withheld);
+        self.window = shift_in(self.window, false);
+        if 2 <= withheld_in(self.window) {
+            return self.arrive(TIGHTENED);
+        }
+        if 9 <= self.row {
+            if permits_reduced {
+                return self.arrive(REDUCED);
+            }
+        }
+        self.row += 1;
+        self.judged = 0;
         self
     }
 
-    // The level that follows a lot which the state has counted.
-    fn level_after(self, permits_reduced: bool) -> u8
-        ensures { λ r. ⌜ r ≡ levelAfter «permits_reduced» self ⌝ }
+    // An accepted lot on tightened: the fifth in a row leads to normal, else the tenth lot judged there ends the stream.
+    fn accept_on_tightened(mut self) -> Self
+        requires { ⌜ (self .level ≡ 2) × (self .row < 255) × (self .judged < 255) ⌝ }
+        ensures { λ r. ⌜ ((permits : Bool) → r ≡ judgedLot permits false self) ⌝ }
     {
-        if self.level == NORMAL {
-            self.after_normal(permits_reduced)
-        } else if self.level == TIGHTENED {
-            self.after_tightened()
-        } else if self.level == REDUCED {
-            self.after_reduced()
-        } else {
-            self.level
+        self.window = shift_in(self.window, false);
+        if 4 <= self.row {
+            return self.arrive(NORMAL);
         }
+        if 9 <= self.judged {
+            return self.arrive(DISCONTINUED);
+        }
+        self.row += 1;
+        self.judged += 1;
+        self
     }
 
-    fn after_normal(self, permits_reduced: bool) -> u8
-        ensures { λ r. ⌜ r ≡ afterNormal «permits_reduced» self ⌝ }
+    // An accepted lot on reduced, which moves nothing. (None is judged where the stream is discontinued.)
+    fn accept_elsewhere(mut self) -> Self
+        requires { ⌜ (self .level ≡ 1 → ⊥) × (self .level ≡ 2 → ⊥) × (self .row < 255) ⌝ }
+        ensures { λ r. ⌜ ((permits : Bool) → r ≡ judgedLot permits false self) ⌝ }
     {
-        if 2 <= withheld_in(self.window) {
-            return TIGHTENED;
-        }
-        if permits_reduced {
-            if 10 <= self.row {
-                return REDUCED;
+        self.window = shift_in(self.window, false);
+        self.row += 1;
+        self.judged = 0;
+        self
+    }
+
+    // A withheld lot: the second in the window ends normal, the tenth lot judged there tightened, any of them reduced.
+    fn withhold(mut self) -> Self
+        requires { ⌜ self .judged < 255 ⌝ }
+        ensures { λ r. ⌜ ((permits : Bool) → r ≡ judgedLot permits true self) ⌝ }
+    {
+        self.row = 0;
+        self.window = shift_in(self.window, true);
+        if self.level == TIGHTENED {
+            if 9 <= self.judged {
+                return self.arrive(DISCONTINUED);
             }
+            self.judged += 1;
+            return self;
         }
-        NORMAL
+        self.judged = 0;
+        if self.level == NORMAL {
+            if self.window != 1 {
+                return self.arrive(TIGHTENED);
+            }
+            return self;
+        }
+        if self.level == REDUCED {
+            return self.arrive(NORMAL);
+        }
+        self
     }
-
-    fn after_tightened(self) -> u8
-        ensures { λ r. ⌜ r ≡ afterTightened self ⌝ }
-    {
-        if 5 <= self.row {
-            return NORMAL;
-        }
-        if 10 <= self.judged {
-            return DISCONTINUED;
-        }
-        TIGHTENED
-    }
-
-    fn after_reduced(self) -> u8
-        ensures { λ r. ⌜ r ≡ afterReduced self ⌝ }
-    {
-        if self.window % 2 == 1 {
-            NORMAL
-        } else {
-            REDUCED
-        }
-    }
-}
-
-// The unbroken row with one lot more.
-fn lengthen(row: u8, withheld: bool) -> u8
-    requires { ⌜ row < 255 ⌝ }
-    ensures { λ r. ⌜ r ≡ lengthened withheld row ⌝ }
-{
-    if withheld { 0 } else { row + 1 }
-}
-
-// The lots judged on tightened, with one lot more.
-fn count_tightened(level: u8, judged: u8) -> u8
-    requires { ⌜ judged < 255 ⌝ }
-    ensures { λ r. ⌜ r ≡ judgedOnTightened level judged ⌝ }
-{
-    if level == TIGHTENED { judged + 1 } else { 0 }
 }
 
 // The window with one lot more.
-fn shift_in(window: u8, withheld: bool) -> u8
-    ensures { λ r. ⌜ r ≡ shifted withheld window ⌝ }
+fn shift_in(window: u32, withheld: bool) -> u32
+    ensures { λ r. ⌜ (r ≡ shifted withheld window) × (r < 32) ⌝ }
 {
     if withheld {
         window % 16 * 2 + 1
@@ -179,8 +170,9 @@ fn shift_in(window: u8, withheld: bool) -> u8
 }
 
 // How many lots of the window were withheld.
-fn withheld_in(window: u8) -> u8
+fn withheld_in(window: u32) -> u32
+    requires { ⌜ window < 32 ⌝ }
     ensures { λ r. ⌜ r ≡ withheldIn window ⌝ }
 {
-    window % 2 + window / 2 % 2 + window / 4 % 2 + window / 8 % 2 + window / 16 % 2
+    u32::count_ones(window)
 }

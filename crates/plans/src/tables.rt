@@ -28,7 +28,7 @@ const SAMPLE_SIZES: [[u32; 9]; 5] = [
 ];
 
 // The sample that a lot asks for at the stated verification level and the severity in force.
-pub fn sample_size(vl: u32, severity: u8, size: LotSize) -> SampleSize
+pub fn sample_size(vl: u32, severity: u32, size: LotSize) -> SampleSize
     requires { ⌜ (1 ≤ vl) × (vl ≤ 7) ⌝ }
     ensures { λ r. ⌜ r .0 ≡ levelSample vl severity (size .0) ⌝ }
     ensures range { λ r. ⌜ r .0 ≤ size .0 ⌝ }
@@ -53,7 +53,7 @@ pub fn code_letter(vl: usize, size: LotSize) -> usize
 }
 
 // The column of Table 2 at a severity.
-fn column(vl: usize, severity: u8) -> usize
+fn column(vl: usize, severity: u32) -> usize
     requires { ⌜ (1 ≤ vl) × (vl ≤ 7) ⌝ }
     ensures { λ r. ⌜ (r ≡ columnAt vl severity) × (r < 9) ⌝ }
 {

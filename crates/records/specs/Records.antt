@@ -1,5 +1,5 @@
 -- A record's numbers in its bytes, and the parts of an area's figures. The clauses of `src/` cite these. Assumes nothing.
-use Prim.Native.Nat.{ℕ, _*_}
+use Prim.Native.Nat.{ℕ, _*_, _<_}
 use mathlib.Core.Path.{_≡_}
 use mathlib.Core.Bool.{Bool, true}
 use mathlib.Core.List.{List, [], _∷_, _++_}
@@ -30,6 +30,13 @@ recordAt area i = part (recordLength * i) recordLength (part headerLength (recor
 -- bytes 16 to 23: credit; level, row, lots judged on tightened, withheld marks
 unfoldable pub levelBytes : ℕ → LevelState → List ℕ
 levelBytes credit s = bytes 4 credit ++ (s .level ∷ s .row ∷ s .judged ∷ s .window ∷ [])
+
+-- a level state whose numbers are bytes
+pub record LevelFits (s : LevelState) : Type 0 where
+  pub levels : s .level < 256
+  pub rows : s .row < 256
+  pub judgedLots : s .judged < 256
+  pub windows : s .window < 256
 
 -- bytes 24 to 31: screening count, phase, an unused byte, tail
 unfoldable pub continuousBytes : Continuous → List ℕ

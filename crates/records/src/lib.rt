@@ -8,7 +8,7 @@ ghost use lib.ListN.{length, drop};
 ghost use Rattle.little.specs.Little.{bytes, part, written};
 ghost use Rattle.model.specs.Sizes.{recordLength, headerLength, mostRecords, areaLength};
 ghost use Rattle.model.specs.Area.{zeros, planBytes, figureBytes, recordBytes, planIn, countIn};
-ghost use Rattle.records.specs.Records.{recordIn, recordAt, levelBytes, continuousBytes, Decides};
+ghost use Rattle.records.specs.Records.{recordIn, recordAt, levelBytes, continuousBytes, LevelFits, Decides};
 use model::Figures;
 use model::Plan;
 use plans::continuous::Continuous;
@@ -118,7 +118,7 @@ pub fn put_count(area: &mut [u8], count: usize)
 
 // Writes the figures: bytes 16 to 47.
 pub fn put_figures(area: &mut [u8], figures: Figures)
-    requires { ⌜ length (now area) ≡ areaLength ⌝ }
+    requires { ⌜ (length (now area) ≡ areaLength) × LevelFits (figures .level) ⌝ }
     ensures { λ _. ⌜ now (area .exit) ≡ written 16 (figureBytes figures) (now (area .entry)) ⌝ }
 {
     let credit = figures.credit;
@@ -188,14 +188,14 @@ fn put_marks(area: &mut [u8], at: usize, first: u8, second: u8)
 
 // Writes bytes 16 to 23.
 fn put_level(area: &mut [u8], credit: Credit, state: LevelState)
-    requires { ⌜ length (now area) ≡ areaLength ⌝ }
+    requires { ⌜ (length (now area) ≡ areaLength) × LevelFits state ⌝ }
     ensures { λ _. ⌜ now (area .exit) ≡ written 16 (levelBytes (credit .0) state) (now (area .entry)) ⌝ }
 {
     little::put_u32(area, 16, credit.0);
-    area[20] = state.level;
-    area[21] = state.row;
-    area[22] = state.judged;
-    area[23] = state.window;
+    area[20] = state.level as u8;
+    area[21] = state.row as u8;
+    area[22] = state.judged as u8;
+    area[23] = state.window as u8;
 }
 
 // Writes bytes 24 to 31.
@@ -217,19 +217,26 @@ fn has_level(area: &[u8], credit: Credit, state: LevelState) -> bool
     if little::get_u32(area, 16) != credit.0 {
         return false;
     }
-    if area[20] != state.level {
+    if wide(area[20]) != state.level {
         return false;
     }
-    if area[21] != state.row {
+    if wide(area[21]) != state.row {
         return false;
     }
-    if area[22] != state.judged {
+    if wide(area[22]) != state.judged {
         return false;
     }
-    if area[23] != state.window {
+    if wide(area[23]) != state.window {
         return false;
     }
     true
+}
+
+// A byte as a number of the width that a state's have.
+fn wide(byte: u8) -> u32
+    ensures { λ r. ⌜ r ≡ byte ⌝ }
+{
+    byte as u32
 }
 
 // Do bytes 24 to 31 hold this state?

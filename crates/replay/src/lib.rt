@@ -1,5 +1,4 @@
 // Reading an area: its records are replayed, one after the other, over a small struct of figures by value.
-pub mod entering;
 
 ghost use mathlib.Core.Path.{_≡_};
 ghost use Prim.Native.Nat.{_-_};
@@ -59,29 +58,9 @@ fn replay_records(area: &[u8], plan: Plan, figures: Figures, from: usize, to: us
         return replay_credit::replay(area, plan, figures, from, to);
     }
     if plan.kind == plan::LEVEL {
-        return replay_any(area, plan, figures, from, to);
+        return replay_level::replay(area, plan, figures, from, to);
     }
     replay_continuous::replay(area, plan, figures, from, to)
-}
-
-fn replay_any(area: &[u8], plan: Plan, figures: Figures, from: usize, to: usize) -> Entered
-    requires { ⌜ Ready plan (now area) figures from to ⌝ }
-    ensures { λ r. ⌜ Replayed plan (now (area .entry)) to r ⌝ }
-{
-    let mut figures = figures;
-    let mut i = from;
-    while i < to {
-        let step = entering::enter(plan, figures, i, records::get_record(area, i));
-        if !step.sound {
-            return step;
-        }
-        figures = step.figures;
-        i += 1;
-    }
-    Entered {
-        sound: true,
-        figures,
-    }
 }
 
 // What an area says, with the figures before so many of its newest records.

@@ -1,12 +1,10 @@
 -- On a credit stream the figures foreign to the plan are zero, so that three numbers say all. Assumes nothing.
-use Prim.Native.Nat.{ℕ, _%_, _<_}
-use mathlib.Core.Path.{_≡_, refl, sym}
-use mathlib.Core.Bool.{Bool, true, false, cond}
+use Prim.Native.Nat.{ℕ, _<_}
+use mathlib.Core.Path.{_≡_, refl}
+use mathlib.Core.Bool.{true, false}
 use mathlib.Core.List.{List, [], _∷_}
-use native.Mathlib.Nat.{mod-eq-of-lt}
-use lib.Dec.{T, ltb}
+use lib.Dec.{T}
 use lib.ListN.{length}
-use borrow.Author.Tests.{lt-ltb}
 use Rattle.plans.specs.Continuous.{screening}
 use Rattle.model.specs.declared.Plan.{Plan}
 use Rattle.model.specs.declared.Entry.{Entry}
@@ -17,6 +15,7 @@ use Rattle.model.specs.Figuring.{noLevel, started, levelStep, continuousStep, i
 use Rattle.model.specs.Calls.{firstOf, entryRefusals, admissible}
 use Rattle.model.proofs.Booleans.{never-both}
 use Rattle.model.proofs.Allowed.{allowed-run, allowed-block, newest-of}
+use Rattle.replaying.proofs.Labels.{is-labelled, label-is}
 use Rattle.replay_credit.specs.Carrying.{noLabel, figuresIn, carriedFrom}
 
 pub record CreditOnly (f : Figures) : Type 0 where
@@ -66,15 +65,6 @@ module _ (p : Plan) (kind : p .kind ≡ 1) where
   entries-only (e ∷ es) ok =
       let newest = newest-of p e es ok in
       stepped-only (figuresOf p es) (length es) e (newest .accepted) (entries-only es (newest .others))
-
--- the newest label, and whether there is one, in one number
-is-labelled : (b : Bool) (n : ℕ) → n < noLabel → ltb (cond b n noLabel) noLabel ≡ b
-is-labelled true n h = lt-ltb n noLabel h
-is-labelled false n h = refl
-
-label-is : (b : Bool) (n : ℕ) → n < noLabel → (b ≡ false → n ≡ 0) → cond b n noLabel % noLabel ≡ n
-label-is true n h none = mod-eq-of-lt h
-label-is false n h none = sym (none refl)
 
 pub carried-same : (f : Figures) → CreditOnly f → f .label < noLabel → figuresIn (carriedFrom f) ≡ f
 unfolding figuresIn carriedFrom

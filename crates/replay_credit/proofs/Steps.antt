@@ -1,11 +1,11 @@
 -- A step on the three numbers says what entering the record says of the figures that they stand for. Assumes nothing.
-use Prim.Native.Nat.{ℕ, _%_, _<_}
+use Prim.Native.Nat.{ℕ, _<_}
 use mathlib.Core.Path.{_≡_, refl, sym, _∙_}
 use mathlib.Core.Bool.{Bool, true, false, cond, not, _&&_}
 use native.Mathlib.Nat.{add-zero, mod-eq-of-lt}
 use native.Mathlib.Omega.{arith}
 use lib.Dec.{eqb, ltb}
-use borrow.Author.Tests.{eqb-true, eqb-false, eq-eqb, ne-eqb, lt-leb, lt-ltb, ltb-true, ltb-false}
+use borrow.Author.Tests.{eqb-true, eqb-false, eq-eqb, lt-leb, lt-ltb}
 use Rattle.plans.specs.Credit.{creditSample}
 use Rattle.model.specs.declared.Plan.{Plan}
 use Rattle.model.specs.declared.Figures.{Figures}
@@ -44,24 +44,9 @@ use Rattle.replay_credit.specs.Carrying.{
   lotStep,
   stepOf,
 }
+use Rattle.replaying.proofs.Labels.{one-comparison, none-given}
 use Rattle.replaying.proofs.Stops.{stop-kind, stop-stands}
 use Rattle.replay_credit.proofs.Foreign.{is-credit, not-level, not-continuous}
-
--- a label is the newest lot's where it is the carried number
-one-comparison : (label newest : ℕ) → label < noLabel → ltb newest noLabel && eqb label (newest % noLabel) ≡ eqb label newest
-one-comparison label newest h = go (ltb newest noLabel) refl
-  where
-    go : (b : Bool) → ltb newest noLabel ≡ b → b && eqb label (newest % noLabel) ≡ eqb label newest
-    go true e = rw (mod-eq-of-lt {n = newest} {m = noLabel} (ltb-true newest noLabel e))
-    go false e = sym (ne-eqb label newest (λ same. omega (arith, ltb-false newest noLabel e)))
-
--- three refusals in a row
-none-given : (same size counts : Bool)
-    → eqb (cond same 10 (cond (not size) 11 (cond (not counts) 13 0))) 0 ≡ not same && size && counts
-none-given true size counts = refl
-none-given false false counts = refl
-none-given false true false = refl
-none-given false true true = refl
 
 -- a step in the figures that it is about
 unfoldable pub enteredAs : Figures → Step → Entered

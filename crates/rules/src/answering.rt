@@ -91,7 +91,7 @@ fn lot_figure(plan: Plan, figures: Figures) -> u32
         return credit.0;
     }
     let state = figures.level;
-    state.level as u32
+    state.level
 }
 
 fn lot(plan: Plan, figures: Figures, after: Figures, size: u32, wrong: u32, all: u32) -> Answer

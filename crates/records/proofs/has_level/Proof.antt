@@ -20,49 +20,61 @@ returns c =
     value-differs 16 8 0 4 (args .credit .0) (args .area .now) (levelBytes (args .credit .0) (args .state)) (lit≤ tt) (omega (arith, c .before .struct-known .given)) refl
     (λ e. c .if1 .taken (c .before .before .get-u32 .ensures ∙ e))
 
-shared-slice-read-if2 : tie.Need-shared-slice-read-if2
-shared-slice-read-if2 c = search needs
+shared-slice-read-wide : tie.Need-shared-slice-read-wide
+shared-slice-read-wide c = search needs
+
+wide-requires : tie.Need-wide-requires
+wide-requires c κs = search needs
 
 returns-2 : tie.Need-returns-2
 unfolding bytes levelBytes
-returns-2 c = byte-differs 16 8 4 _ _ _ (lit< tt) refl (c .if2 .taken)
+returns-2 c = byte-differs 16 8 4 _ _ _ (lit< tt) refl (λ e. c .if2 .taken (c .before .before .wide .ensures ∙ e))
 
-shared-slice-read-if3 : tie.Need-shared-slice-read-if3
-shared-slice-read-if3 c = search needs
+shared-slice-read-wide-2 : tie.Need-shared-slice-read-wide-2
+shared-slice-read-wide-2 c = search needs
+
+wide-requires-2 : tie.Need-wide-requires-2
+wide-requires-2 c κs = search needs
 
 returns-3 : tie.Need-returns-3
 unfolding bytes levelBytes
-returns-3 c = byte-differs 16 8 5 _ _ _ (lit< tt) refl (c .if3 .taken)
+returns-3 c = byte-differs 16 8 5 _ _ _ (lit< tt) refl (λ e. c .if3 .taken (c .before .before .wide2 .ensures ∙ e))
 
-shared-slice-read-if4 : tie.Need-shared-slice-read-if4
-shared-slice-read-if4 c = search needs
+shared-slice-read-wide-3 : tie.Need-shared-slice-read-wide-3
+shared-slice-read-wide-3 c = search needs
+
+wide-requires-3 : tie.Need-wide-requires-3
+wide-requires-3 c κs = search needs
 
 returns-4 : tie.Need-returns-4
 unfolding bytes levelBytes
-returns-4 c = byte-differs 16 8 6 _ _ _ (lit< tt) refl (c .if4 .taken)
+returns-4 c = byte-differs 16 8 6 _ _ _ (lit< tt) refl (λ e. c .if4 .taken (c .before .before .wide3 .ensures ∙ e))
 
-shared-slice-read-if5 : tie.Need-shared-slice-read-if5
-shared-slice-read-if5 c = search needs
+shared-slice-read-wide-4 : tie.Need-shared-slice-read-wide-4
+shared-slice-read-wide-4 c = search needs
+
+wide-requires-4 : tie.Need-wide-requires-4
+wide-requires-4 c κs = search needs
 
 returns-5 : tie.Need-returns-5
 unfolding bytes levelBytes
-returns-5 c = byte-differs 16 8 7 _ _ _ (lit< tt) refl (c .if5 .taken)
+returns-5 c = byte-differs 16 8 7 _ _ _ (lit< tt) refl (λ e. c .if5 .taken (c .before .before .wide4 .ensures ∙ e))
 
 returns-6 : tie.Need-returns-6
 unfolding bytes levelBytes
 returns-6 c =
-    let past4 = c .before .before .before in
-    let past3 = past4 .before .before .before in
-    let past2 = past3 .before .before .before in
-    let past1 = past2 .before .before .before in
+    let past4 = c .before .before .before .before in
+    let past3 = past4 .before .before .before .before in
+    let past2 = past3 .before .before .before .before in
+    let past1 = past2 .before .before .before .before in
     let entry = past1 .before .before .before .before in
     let area = entry .args .area .now in
     let are-bytes : AreBytes area = λ i. omega (arith, past1 .before .before .before .shared-slice-known .given i) in
     let credit = part-of-value 16 4 _ area are-bytes (omega arith) (sym (past1 .before .before .get-u32 .ensures) ∙ past1 .if1 .left) in
-    let level = part-of-byte 20 _ area (omega arith) (past2 .if2 .left) in
-    let row = part-of-byte 21 _ area (omega arith) (past3 .if3 .left) in
-    let judged = part-of-byte 22 _ area (omega arith) (past4 .if4 .left) in
-    let window = part-of-byte 23 _ area (omega arith) (c .if5 .left) in
+    let level = part-of-byte 20 _ area (omega arith) (sym (past2 .before .before .wide .ensures) ∙ past2 .if2 .left) in
+    let row = part-of-byte 21 _ area (omega arith) (sym (past3 .before .before .wide2 .ensures) ∙ past3 .if3 .left) in
+    let judged = part-of-byte 22 _ area (omega arith) (sym (past4 .before .before .wide3 .ensures) ∙ past4 .if4 .left) in
+    let window = part-of-byte 23 _ area (omega arith) (sym (c .before .before .wide4 .ensures) ∙ c .if5 .left) in
     proven (part-join 16 7 1 _ _ area (part-join 16 6 1 _ _ area (part-join 16 5 1 _ _ area (part-join 16 4 1 _ _ area credit refl level) refl row) refl judged) refl window)
 
 pub has-level-spec : {M : Type 1} → statement M
@@ -71,12 +83,16 @@ has-level-spec =
     (tie.spec
     get-u32-requires
     returns
-    shared-slice-read-if2
+    shared-slice-read-wide
+    wide-requires
     returns-2
-    shared-slice-read-if3
+    shared-slice-read-wide-2
+    wide-requires-2
     returns-3
-    shared-slice-read-if4
+    shared-slice-read-wide-3
+    wide-requires-3
     returns-4
-    shared-slice-read-if5
+    shared-slice-read-wide-4
+    wide-requires-4
     returns-5
     returns-6)

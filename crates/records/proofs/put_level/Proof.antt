@@ -13,14 +13,26 @@ use Rattle.records.proofs.put_level.Tie as tie
 put-u32-requires : tie.Need-put-u32-requires
 put-u32-requires c κs = search needs
 
+cast-area : tie.Need-cast-area
+cast-area c = search needs
+
 slice-write-area : tie.Need-slice-write-area
 slice-write-area c = search needs
+
+cast-area-2 : tie.Need-cast-area-2
+cast-area-2 c = search needs
 
 slice-write-area-2 : tie.Need-slice-write-area-2
 slice-write-area-2 c = search needs
 
+cast-area-3 : tie.Need-cast-area-3
+cast-area-3 c = search needs
+
 slice-write-area-3 : tie.Need-slice-write-area-3
 slice-write-area-3 c = simp length-set (omega arith)
+
+cast-area-4 : tie.Need-cast-area-4
+cast-area-4 c = search needs
 
 slice-write-area-4 : tie.Need-slice-write-area-4
 slice-write-area-4 c = simp length-set (omega arith)
@@ -31,8 +43,8 @@ same-length c = search needs
 returns : tie.Need-returns
 unfolding bytes levelBytes
 returns c =
-    let state = c .before .before .before .before .before .args .state in
-    let level = then-set 16 _ (state .level) _ (c .before .before .put-u32 .ensures) refl (omega arith) in
+    let state = c .before .before .before .before .before .before .before .before .before .args .state in
+    let level = then-set 16 _ (state .level) _ (c .before .before .before .before .before .before .put-u32 .ensures) refl (omega arith) in
     let row = then-set 16 _ (state .row) _ level refl (omega arith) in
     let judged = then-set 16 _ (state .judged) _ row refl (omega arith) in
     then-set 16 _ _ _ judged refl (omega arith)
@@ -42,9 +54,13 @@ put-level-spec =
     tie.close
     (tie.spec
     put-u32-requires
+    cast-area
     slice-write-area
+    cast-area-2
     slice-write-area-2
+    cast-area-3
     slice-write-area-3
+    cast-area-4
     slice-write-area-4
     same-length
     returns)

@@ -10,14 +10,14 @@ replay-requires c κs = search needs
 returns : tie.Need-returns
 returns c = search needs
 
-replay-any-requires : tie.Need-replay-any-requires
-replay-any-requires c κs = search needs
+replay-requires-2 : tie.Need-replay-requires-2
+replay-requires-2 c κs = search needs
 
 returns-2 : tie.Need-returns-2
 returns-2 c = search needs
 
-replay-requires-2 : tie.Need-replay-requires-2
-replay-requires-2 c κs =
+replay-requires-3 : tie.Need-replay-requires-3
+replay-requires-3 c κs =
     let ready = c .before .before .before .before .before .pre in
     (ready, omega (arith, plan-range _ (ready .valid), c .before .before .if1 .left, c .if2 .left))
 
@@ -27,4 +27,4 @@ returns-3 c = search needs
 pub replay-records-spec : {M : Type 1} → statement M
 replay-records-spec =
     tie.close
-    (tie.spec replay-requires returns replay-any-requires returns-2 replay-requires-2 returns-3)
+    (tie.spec replay-requires returns replay-requires-2 returns-2 replay-requires-3 returns-3)

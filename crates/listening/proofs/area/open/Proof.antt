@@ -1,4 +1,4 @@
-use Rattle.listening.proofs.OnReading.{read-unsound, read-unopened, read-opened}
+use Rattle.listening.proofs.OnReading.{read-unsound, read-unopened, read-opened, started-fits}
 use Rattle.listening.proofs.Outcomes.{by-unsound, open-again, open-invalid, open-made}
 use Rattle.model.proofs.Allowed.{plan-range}
 use Rattle.model.proofs.Booleans.{of-holds}
@@ -62,7 +62,11 @@ started-requires : tie.Need-started-requires
 started-requires c κs = search needs
 
 put-figures-requires : tie.Need-put-figures-requires
-put-figures-requires c κs = search needs
+put-figures-requires c κs =
+    let passed = c .before .before .before .before .before .before in
+    let checked = passed .before in
+    let valid = of-holds _ (sym (checked .is-valid .ensures) ∙ not-false (checked .is-valid .result) (passed .if3 .left)) in
+    (search needs, rw (c .started .ensures) (started-fits _ valid))
 
 gives-requires : tie.Need-gives-requires
 gives-requires c κs = search needs

@@ -2,7 +2,7 @@ use native.Mathlib.Omega.{arith}
 use Rattle.model.proofs.Allowed.{room-for}
 use Rattle.listening.specs.Written.{rewritten}
 use Rattle.listening.proofs.OnReading.{read-opened}
-use Rattle.listening.proofs.Entering.{length-after, entry-ready, entry-brings}
+use Rattle.listening.proofs.Entering.{length-after, entry-ready, entry-brings, entry-fits}
 use Rattle.listening.proofs.Outcomes.{flag-fits}
 use borrow.Author.Needs.{needs}
 use Rattle.listening.proofs.area.put_entry.Statement.{statement}
@@ -38,7 +38,12 @@ put-standing-requires c κs =
     let whole =
     length-after (start .area .now) (start .standing) (at .0) (at .1) (start .entry) (takes .accepted) _
     (c .before .before .before .before .before .before .put-record-of .ensures .0) (c .before .before .before .before .before .before .before .before .before .pre .0) in
-    (whole, omega (arith, room-for _ _ _ _ (takes .accepted)))
+    let recorded = c .before .before .before .before .before .before .put-record-of .ensures in (
+      whole,
+      omega (arith, room-for _ _ _ _ (takes .accepted)),
+      entry-fits (start .area .now) (start .standing) (at .0) (at .1) (start .entry) (takes .accepted) _ (recorded .0) (recorded .1)
+          (c .before .before .replay .result) (c .before .before .replay .ensures),
+    )
 
 same-length : tie.Need-same-length
 same-length c = search needs

@@ -15,11 +15,11 @@ mul-result-2 c = search needs
 
 returns : tie.Need-returns
 unfolding shifted
-returns c = simp (c .if1 .taken) (omega arith)
+returns c = (simp (c .if1 .taken) (omega arith), omega arith)
 
 returns-2 : tie.Need-returns-2
 unfolding shifted
-returns-2 c = simp (c .if1 .left) (omega arith)
+returns-2 c = (simp (c .if1 .left) (omega arith), omega arith)
 
 pub shift-in-spec : {M : Type 1} → statement M
 shift-in-spec = tie.close (tie.spec mul-result add-result mul-result-2 returns returns-2)

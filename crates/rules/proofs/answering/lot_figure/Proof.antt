@@ -9,12 +9,9 @@ returns : tie.Need-returns
 unfolding lotFigure isCredit
 returns c = simp (eq-eqb _ _ (c .before .if1 .taken))
 
-cast-result : tie.Need-cast-result
-cast-result c = search needs
-
 returns-2 : tie.Need-returns-2
 unfolding lotFigure isCredit
-returns-2 c = simp (ne-eqb _ _ (c .before .before .if1 .left))
+returns-2 c = simp (ne-eqb _ _ (c .before .if1 .left))
 
 pub lot-figure-spec : {M : Type 1} → statement M
-lot-figure-spec = tie.close (tie.spec returns cast-result returns-2)
+lot-figure-spec = tie.close (tie.spec returns returns-2)

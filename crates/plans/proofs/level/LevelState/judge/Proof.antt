@@ -1,26 +1,40 @@
-use Rattle.plans.specs.Levels.{judgedLot, moved}
-use borrow.Author.Tests.{eq-eqb, ne-eqb}
 use borrow.Author.Needs.{needs}
 use Rattle.plans.proofs.level.LevelState.judge.Statement.{statement}
 use Rattle.plans.proofs.level.LevelState.judge.Tie as tie
 
-counted-requires : tie.Need-counted-requires
-counted-requires c κs = search needs
-
-level-after-requires : tie.Need-level-after-requires
-level-after-requires c κs = search needs
+withhold-requires : tie.Need-withhold-requires
+withhold-requires c κs = search needs
 
 returns : tie.Need-returns
-unfolding judgedLot moved
-returns c = simp (← c .before .before .before .counted .ensures, ← c .before .before .level-after .ensures, eq-eqb _ _ (c .if1 .taken))
+returns c = rw (c .before .if1 .taken) (c .withhold .ensures _)
 
-arrive-requires : tie.Need-arrive-requires
-arrive-requires c κs = search needs
+accept-on-normal-requires : tie.Need-accept-on-normal-requires
+accept-on-normal-requires c κs = search needs
 
 returns-2 : tie.Need-returns-2
-unfolding judgedLot moved
-returns-2 c = simp (← c .before .before .before .before .counted .ensures, ← c .before .before .before .level-after .ensures, ne-eqb _ _ (c .before .if1 .left)) (c .arrive .ensures)
+returns-2 c = rw (c .before .before .before .if1 .left) (c .accept-on-normal .ensures)
+
+accept-on-tightened-requires : tie.Need-accept-on-tightened-requires
+accept-on-tightened-requires c κs = search needs
+
+returns-3 : tie.Need-returns-3
+returns-3 c = rw (c .before .before .before .before .before .if1 .left) (c .accept-on-tightened .ensures _)
+
+accept-elsewhere-requires : tie.Need-accept-elsewhere-requires
+accept-elsewhere-requires c κs = search needs
+
+returns-4 : tie.Need-returns-4
+returns-4 c = rw (c .before .before .before .before .before .if1 .left) (c .accept-elsewhere .ensures _)
 
 pub judge-spec : {M : Type 1} → statement M
 judge-spec =
-    tie.close (tie.spec counted-requires level-after-requires returns arrive-requires returns-2)
+    tie.close
+    (tie.spec
+    withhold-requires
+    returns
+    accept-on-normal-requires
+    returns-2
+    accept-on-tightened-requires
+    returns-3
+    accept-elsewhere-requires
+    returns-4)

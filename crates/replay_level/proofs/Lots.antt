@@ -1,0 +1,100 @@
+-- The answers to a record on a level stream, one law for each. Assumes nothing.
+use Prim.Native.Nat.{ℕ, _+_, _≤_, _<_}
+use mathlib.Core.Path.{_≡_, refl, sym, ap, _∙_}
+use mathlib.Core.Bool.{Bool, true, false, cond, not, _&&_, and-false}
+use native.Mathlib.Nat.{add-zero}
+use native.Mathlib.Omega.{arith}
+use lib.Dec.{eqb, ltb, leb·zero}
+use borrow.Author.Tests.{eqb-true, eq-eqb, ne-eqb, le-leb, lt-ltb}
+use Rattle.plans.specs.Verdicts.{levelVerdict, acceptedOf}
+use Rattle.plans.specs.Tables.{levelSample}
+use Rattle.plans.specs.Levels.{judgedLot}
+use Rattle.plans.specs.declared.level.LevelState.{LevelState}
+use Rattle.model.specs.declared.Plan.{Plan}
+use Rattle.model.specs.Stations.{hasOption, within}
+use Rattle.model.proofs.Booleans.{both-true, within-of}
+use Rattle.records.specs.declared.Record.{Record}
+use Rattle.replaying.specs.Replaying.{headOf, isStop, noneWrong}
+use Rattle.replay_level.specs.declared.Carried.{Carried}
+use Rattle.replay_level.specs.declared.Step.the-variants.{Stands, Fails}
+use Rattle.replay_level.specs.Carrying.{stepIf, mayFollow, fitsSample, afterLot, afterStop, lotStep, stepOf}
+use Rattle.replay_level.proofs.Samples.{sample-least}
+
+module _ (p : Plan) (s : Carried) (r : Record) where
+  -- on a discontinued stream, a lot's record, and another
+  pub ended-step : s .state .level ≡ 3 → Fails ≡ stepOf p s r
+  unfolding stepOf
+  ended-step e = rw (eq-eqb (s .state .level) 3 e)
+
+  pub lot-step : (s .state .level ≡ 3 → ⊥) → headOf r ≡ 1 → lotStep p s r ≡ stepOf p s r
+  unfolding stepOf
+  lot-step on head = rw (ne-eqb (s .state .level) 3 on, eq-eqb (headOf r) 1 head)
+
+  pub stop-step : (s .state .level ≡ 3 → ⊥) → (headOf r ≡ 1 → ⊥) → stepIf (isStop r) (afterStop s r) ≡ stepOf p s r
+  unfolding stepOf
+  stop-step on other = rw (ne-eqb (s .state .level) 3 on, ne-eqb (headOf r) 1 other)
+
+  pub size-in-range : mayFollow s r ≡ true → (2 ≤ r .b) × (r .b ≤ 1000000)
+  unfolding mayFollow
+  size-in-range e = within-of 2 1000000 (r .b) (both-true (not (eqb (r .a) (s .newest))) (within 2 1000000 (r .b)) e .1)
+
+  pub not-following : mayFollow s r ≡ false → Fails ≡ lotStep p s r
+  unfolding lotStep stepIf
+  not-following e = rw e
+
+  pub unfit : fitsSample (p .a) (s .state .level) r ≡ false → Fails ≡ lotStep p s r
+  unfolding lotStep stepIf
+  unfit e = rw (e, and-false (mayFollow s r))
+
+  lot-stands : mayFollow s r ≡ true → fitsSample (p .a) (s .state .level) r ≡ true → Stands (afterLot p s r) ≡ lotStep p s r
+  unfolding lotStep stepIf
+  lot-stands e c = rw (e, c)
+
+  -- nothing wrong: accepted whole, whatever the sample
+  module _ (none : noneWrong r ≡ true) where
+    zeros : (r .c ≡ 0) × (r .d ≡ 0)
+    unfolding noneWrong
+    zeros =
+        let both = both-true (eqb (r .c) 0) (eqb (r .d) 0) none in
+        (eqb-true (r .c) 0 (both .0), eqb-true (r .d) 0 (both .1))
+
+    good-fits : fitsSample (p .a) (s .state .level) r ≡ true
+    unfolding fitsSample
+    good-fits = simp (zeros .0, zeros .1, leb·zero)
+
+    after-good : record { state = judgedLot (hasOption p) false (s .state); accepted = s .accepted + r .b; newest = r .a } ≡ afterLot p s r
+    unfolding afterLot acceptedOf levelVerdict
+    after-good = simp (zeros .0)
+
+    pub good-lot : mayFollow s r ≡ true
+        → Stands (record { state = judgedLot (hasOption p) false (s .state); accepted = s .accepted + r .b; newest = r .a }) ≡ lotStep p s r
+    good-lot e = ap Stands after-good ∙ lot-stands e good-fits
+
+  -- something wrong, and a sample that holds it: withheld
+  module _ (some : noneWrong r ≡ false) (fits : fitsSample (p .a) (s .state .level) r ≡ true) where
+    wrong : r .c ≡ 0 → ⊥
+    unfolding noneWrong fitsSample
+    wrong c =
+        let same : r .d ≡ r .c = eqb-true (r .d) (r .c) (both-true (eqb (r .d) (r .c)) _ fits .0) in
+        let never : _≡_ {A = Bool} true false = rw (noneWrong, eq-eqb (r .c) 0 c, eq-eqb (r .d) 0 (same ∙ c)) at some in
+        let z : _≡_ {A = ℕ} 0 1 = cc in
+        omega arith
+
+    after-wrong : record { state = judgedLot (hasOption p) true (s .state); accepted = s .accepted; newest = r .a } ≡ afterLot p s r
+    unfolding afterLot acceptedOf levelVerdict
+    after-wrong = simp (lt-ltb 0 (r .c) (omega (arith, wrong)), ne-eqb (r .c) 0 wrong, add-zero)
+
+    pub wrong-lot : mayFollow s r ≡ true
+        → Stands (record { state = judgedLot (hasOption p) true (s .state); accepted = s .accepted; newest = r .a }) ≡ lotStep p s r
+    wrong-lot e = ap Stands after-wrong ∙ lot-stands e fits
+
+-- whether a sample holds what is wrong
+module _ (vl severity : ℕ) (r : Record) where
+  pub counts-differ : (r .d ≡ r .c → ⊥) → false ≡ fitsSample vl severity r
+  unfolding fitsSample
+  counts-differ e = rw (ne-eqb (r .d) (r .c) e)
+
+  pub few-wrong : 1 ≤ vl → 2 ≤ r .b → r .d ≡ r .c → r .c ≤ 2 → true ≡ fitsSample vl severity r
+  unfolding fitsSample
+  few-wrong h size same few =
+      rw (eq-eqb (r .d) (r .c) same, le-leb (r .c) (levelSample vl severity (r .b)) (omega (arith, sample-least vl severity (r .b) h size)))

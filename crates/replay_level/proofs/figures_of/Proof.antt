@@ -1,0 +1,17 @@
+use Rattle.replay_level.specs.Carrying.{figuresIn}
+use borrow.Author.Needs.{needs}
+use Rattle.replay_level.proofs.figures_of.Statement.{statement}
+use Rattle.replay_level.proofs.figures_of.Tie as tie
+
+screen-requires : tie.Need-screen-requires
+screen-requires c κs = search needs
+
+cast-t7 : tie.Need-cast-t7
+cast-t7 c = search needs
+
+returns : tie.Need-returns
+unfolding figuresIn
+returns c = rw (c .before .before .screen .ensures)
+
+pub figures-of-spec : {M : Type 1} → statement M
+figures-of-spec = tie.close (tie.spec screen-requires cast-t7 returns)

@@ -1,0 +1,114 @@
+use Prim.Native.Nat.{_≤_, _-_}
+use mathlib.Core.Path.{_≡_, sym, _∙_}
+use mathlib.Core.Bool.{true}
+use native.Mathlib.Omega.{arith}
+use borrow.Author.Needs.{needs}
+use Rattle.little.specs.Little.{AreBytes}
+use Rattle.replaying.specs.Replaying.{standTo, figuresTo}
+use Rattle.replay_level.specs.Carrying.{figuresIn}
+use Rattle.replay_level.proofs.Turning.{figures-kept, bounded, turned, stopped}
+use Rattle.replay_level.proofs.replay.Statement.{statement}
+use Rattle.replay_level.proofs.replay.Tie as tie
+
+abbrev Inv-loop : tie.InvT-loop
+Inv-loop area plan from to carried₀ i₀ carried i =
+    (i ≤ to) × (standTo plan area i ≡ true) × (figuresIn carried ≡ figuresTo plan area i)
+
+abbrev μ-loop : tie.MeasureT-loop
+μ-loop area plan from to carried₀ i₀ carried i = to - i
+
+carried-from-requires : tie.Need-carried-from-requires Inv-loop μ-loop
+carried-from-requires c κs = search needs
+
+bytes-of : (c : tie.After-carried-from Inv-loop μ-loop) → AreBytes (c .before .before .args .area .now)
+bytes-of c = λ k. c .before .shared-slice-known .given k .fits
+
+loop-holds : tie.Need-loop-holds Inv-loop μ-loop
+loop-holds c =
+    let start = c .before .before in
+    let ready = start .pre .0 in (
+      ready .inOrder,
+      ready .stood,
+      rw (c .carried-from .ensures, ready .brought)
+          (figures-kept _ (start .pre .1) (ready .valid) _ (ready .whole) (bytes-of c) _ (omega arith) (ready .stood)),
+    )
+
+enter-requires : tie.Need-enter-requires Inv-loop μ-loop
+enter-requires c κs =
+    let start = c .before .before .before .before in
+    let ready = start .pre .0 in
+    let turn = c .before .loop in (
+      ready .whole,
+      omega arith,
+      bounded _ (start .pre .1) (ready .valid) _ (ready .whole) (bytes-of (c .before .before)) (turn .carried) (turn .i) (omega arith)
+          (turn .inv .1) (turn .inv .2),
+    )
+
+enum-known-next : tie.Need-enum-known-next Inv-loop μ-loop
+enum-known-next c = search needs
+
+enum-told : tie.Need-enum-told Inv-loop μ-loop
+enum-told c = search needs
+
+figures-of-requires : tie.Need-figures-of-requires Inv-loop μ-loop
+figures-of-requires c κs = search needs
+
+returns : tie.Need-returns Inv-loop μ-loop
+returns c =
+    let made = c .before .before .before in
+    let turn = made .before .before .loop in
+    let start = made .before .before .before .before .before in
+    let ready = start .pre .0 in
+    rw (c .figures-of .ensures)
+    (stopped _ (start .pre .1) (ready .valid) _ (ready .whole) (bytes-of (made .before .before .before)) (turn .carried) (turn .i) (omega arith)
+    (turn .inv .1) (turn .inv .2)
+    (sym (c .before .enum-told .given .1) ∙ made .enter .ensures) _ (omega arith))
+
+add-i : tie.Need-add-i Inv-loop μ-loop
+add-i c = search needs
+
+loop-less : tie.Need-loop-less Inv-loop μ-loop
+loop-less c = omega arith
+
+loop-again : tie.Need-loop-again Inv-loop μ-loop
+loop-again c =
+    let made = c .before .before .before in
+    let turn = made .before .before .loop in
+    let start = made .before .before .before .before .before in
+    let ready = start .pre .0 in
+    let next =
+    turned _ (start .pre .1) (ready .valid) _ (ready .whole) (bytes-of (made .before .before .before)) (turn .carried) (turn .i) (omega arith)
+    (turn .inv .1) (turn .inv .2) _ (sym (c .before .next .given .1) ∙ made .enter .ensures) in
+    (omega arith, next .0, next .1)
+
+figures-of-requires-2 : tie.Need-figures-of-requires-2 Inv-loop μ-loop
+figures-of-requires-2 c κs = search needs
+
+returns-2 : tie.Need-returns-2 Inv-loop μ-loop
+returns-2 c =
+    let turn = c .before .before .loop in
+    let start = c .before .before .before .before .before in
+    let all : turn .i ≡ start .args .to = omega arith in
+    record {
+      allStand = sym (rw all at (turn .inv .1));
+      figuresAfter = λ _. c .figures-of2 .ensures ∙ rw all at (turn .inv .2);
+    }
+
+pub replay-spec : {M : Type 1} → statement M
+replay-spec =
+    tie.close
+    (tie.spec
+    Inv-loop
+    μ-loop
+    carried-from-requires
+    loop-holds
+    enter-requires
+    enum-known-next
+    enum-told
+    figures-of-requires
+    returns
+    add-i
+    loop-less
+    loop-again
+    figures-of-requires-2
+    returns-2)
