@@ -1,20 +1,21 @@
 -- Lines, and the text that stands in a buffer. Assumes nothing.
 use mathlib.Core.Path.{_≡_, refl, sym, ap, _∙_}
-use mathlib.Core.Bool.{true, false}
+use mathlib.Core.Bool.{Bool, true, false}
 use mathlib.Core.List.{List, [], _∷_, _++_, append-assoc, append-nil}
-use Prim.Native.Nat.{ℕ, _+_, _*_, _≤_, _<_}
+use Prim.Native.Nat.{ℕ, _+_, _-_, _*_, _≤_, _<_}
 use native.Mathlib.Numerals.{add-one}
 use native.Mathlib.Omega.{arith}
 use borrow.Author.Tests.{le-leb, lt-leb, eq-eqb, ne-eqb}
 use lib.Dec.{eqb}
-use lib.ListN.{length, take, drop, getD, set, length-append, length-take}
-use lib.Seq.{length-take-le, take-at, drop-drop, take-suc, take-suc-set, take-append-add, take-append-le}
-use Rattle.little.specs.Little.{written}
-use Rattle.little.proofs.Laws.{drop-written, written-nil}
+use lib.ListN.{length, take, drop, getD, set, length-append, length-take, length-drop}
+use lib.Seq.{length-take-le, take-add, take-at, drop-cons, drop-drop, take-suc, take-suc-set, take-append-add, take-append-le, getD-drop}
+use Rattle.little.specs.Little.{part, written}
+use Rattle.little.proofs.Laws.{length-part, drop-written, written-nil}
 use Rattle.model.specs.declared.Answer.{Answer}
 use Rattle.model.specs.declared.Call.{Call}
 use Rattle.model.specs.Store.{onStore, fresh}
 use Rattle.model.specs.Claims.{on}
+use Rattle.model.proofs.Booleans.{never-both}
 use Rattle.frame_text.specs.declared.Frame.the-variants.{Made, Bad}
 use Rattle.frame_text.specs.Frames.{frameLength, frameOf}
 use Rattle.frame_text.specs.Answers.{lineFeed, answerText, badText}
@@ -31,13 +32,27 @@ use Rattle.frame_text.specs.Feeding.{
   atEnd,
 }
 use Rattle.frame_text.proofs.Laws.{length-answer, length-bad}
-use Rattle.frame_text.proofs.Feeding.{fed-in-pieces}
+use Rattle.frame_text.proofs.Feeding.{frame-line, frame-digits, fed-in-pieces}
 use Rattle.feeding.specs.declared.Fed.{Fed}
-use Rattle.feeding.specs.Fed.{lineRoom, textLength, held, storeAtEnd, LineEnded, ByteTaken, FedBy, Finished, AllFed}
+use Rattle.feeding.specs.declared.Taken.{Taken}
+use Rattle.feeding.specs.Fed.{
+  lineRoom,
+  textLength,
+  held,
+  storeAtEnd,
+  LineEnded,
+  FrameMade,
+  BytesTaken,
+  FrameTaken,
+  SomeTaken,
+  FedBy,
+  Finished,
+  AllFed,
+}
 
 -- ---- a line that ended
 
-pub made-line : (store line out : List ℕ) (at stream : ℕ) (c : Call) (r : Answer) (store′ out′ : List ℕ)
+made-line : (store line out : List ℕ) (at stream : ℕ) (c : Call) (r : Answer) (store′ out′ : List ℕ)
     → record { answer = r; store = store′ } ≡ onStore store (on stream c)
     → out′ ≡ written at (answerText r) out
     → frameOf line ≡ Made stream c
@@ -54,15 +69,42 @@ made-line store line out at stream c r store′ out′ made text frame =
       small = omega arith;
     }
 
-pub bad-line : (store line out : List ℕ) (at : ℕ) (out′ : List ℕ)
-    → out′ ≡ written at badText out
-    → frameOf line ≡ Bad
-    → LineEnded store line out at 3 store out′
-unfolding onLine onFrame
-bad-line store line out at out′ text frame =
+pub frame-made : (store line out : List ℕ) (at stream : ℕ) (c : Call) (r : Answer) (store′ out′ : List ℕ)
+    → record { answer = r; store = store′ } ≡ onStore store (on stream c)
+    → out′ ≡ written at (answerText r) out
+    → frameOf line ≡ Made stream c
+    → FrameMade store line out at true store′ out′
+frame-made store line out at stream c r store′ out′ made text frame =
     record {
-      made = rw frame;
-      text = rw frame text;
+      long = λ e. frame-digits line stream c frame .0;
+      digits = λ e. frame-digits line stream c frame .1;
+      ended = λ e. made-line store line out at stream c r store′ out′ made text frame;
+      bad = λ e. absurd (never-both true refl e);
+      sameStore = λ e. absurd (never-both true refl e);
+      sameText = λ e. absurd (never-both true refl e);
+    }
+
+pub frame-none : (store line out : List ℕ) (at : ℕ) → frameOf line ≡ Bad → FrameMade store line out at false store out
+frame-none store line out at frame =
+    record {
+      long = λ e. absurd (never-both false e refl);
+      digits = λ e. absurd (never-both false e refl);
+      ended = λ e. absurd (never-both false e refl);
+      bad = λ e. frame;
+      sameStore = λ e. refl;
+      sameText = λ e. refl;
+    }
+
+pub bad-line : (store line out : List ℕ) (at : ℕ) (r : Bool) (store′ out₁ out′ : List ℕ)
+    → FrameMade store line out at r store′ out₁ → r ≡ false
+    → out′ ≡ written at badText out₁
+    → LineEnded store line out at 3 store′ out′
+unfolding onLine onFrame
+bad-line store line out at r store′ out₁ out′ tried none text =
+    let frame : frameOf line ≡ Bad = tried .bad none in
+    record {
+      made = rw frame (tried .sameStore none);
+      text = rw frame (rw (tried .sameText none) at text);
       count = rw (frame, length-bad);
       small = omega arith;
     }
@@ -86,24 +128,24 @@ not-kept line have b room short full =
 pub fed-line : (store line out : List ℕ) (have at b wrote : ℕ) (store′ out′ : List ℕ)
     → b ≡ lineFeed → length line ≡ lineRoom
     → LineEnded store (take have line) out at wrote store′ out′
-    → ByteTaken (held store line have) b out at (record { have = 0; wrote = at + wrote }) store′ line out′
-unfolding afterByte printedAt
+    → BytesTaken (held store line have) (b ∷ []) out at 0 (at + wrote) store′ line out′
+unfolding afterBytes printedBy afterByte printedAt
 fed-line store line out have at b wrote store′ out′ same room ended =
     let test : eqb b lineFeed ≡ true = eq-eqb b lineFeed same in
     record {
       state = rw (test, ended .made);
       short = omega arith;
       room = room;
-      text = rw test (ended .text);
-      count = rw test (ap (λ (n : ℕ). at + n) (ended .count));
+      text = rw (test, append-nil) (ended .text);
+      count = rw (test, append-nil) (ap (λ (n : ℕ). at + n) (ended .count));
       small = omega (arith, ended .small);
     }
 
 pub going-on : (store line line′ out : List ℕ) (have at b have′ : ℕ)
     → ((b ≡ lineFeed) → ⊥)
     → take have′ line′ ≡ kept (take have line) b → have′ ≤ lineRoom → length line′ ≡ lineRoom
-    → ByteTaken (held store line have) b out at (record { have = have′; wrote = at }) store line′ out
-unfolding afterByte printedAt
+    → BytesTaken (held store line have) (b ∷ []) out at have′ at store line′ out
+unfolding afterBytes printedBy afterByte printedAt
 going-on store line line′ out have at b have′ other keeping short room =
     let test : eqb b lineFeed ≡ false = ne-eqb b lineFeed other in
     record {
@@ -113,6 +155,74 @@ going-on store line line′ out have at b have′ other keeping short room =
       text = rw test (sym (written-nil at out));
       count = rw test (omega arith);
       small = omega arith;
+    }
+
+-- ---- a line that lies whole in a piece
+
+-- one byte of a piece, and 44 bytes with the one behind them
+
+part-one : (piece : List ℕ) (i : ℕ) → i < length piece → part i 1 piece ≡ getD piece i 0 ∷ []
+unfolding part
+part-one piece i inside = rw (drop-cons piece i 0 inside)
+
+part-line : (piece : List ℕ) (i : ℕ) → i + lineRoom ≤ length piece
+    → part i lineRoom piece ≡ part i frameLength piece ++ (getD piece (i + frameLength) 0 ∷ [])
+unfolding part
+part-line piece i inside =
+    rw (take-suc (drop i piece) frameLength 0 (simp length-drop (omega arith)), getD-drop i piece frameLength 0)
+
+pub frame-not-taken : (store : List ℕ) (have : ℕ) (piece : List ℕ) (i : ℕ) (out : List ℕ) (at : ℕ) → FrameTaken store have piece i out at false store out
+frame-not-taken store have piece i out at =
+    record {
+      inside = λ e. absurd (never-both false e refl);
+      taken = λ e. absurd (never-both false e refl);
+      sameStore = λ e. refl;
+      sameText = λ e. refl;
+    }
+
+pub frame-taken : (store : List ℕ) (have : ℕ) (piece : List ℕ) (i : ℕ) (out : List ℕ) (at : ℕ) (r : Bool) (store′ out′ : List ℕ)
+    → have ≡ 0 → i + lineRoom ≤ length piece → getD piece (i + frameLength) 0 ≡ lineFeed
+    → FrameMade store (part i frameLength piece) out at r store′ out′
+    → FrameTaken store have piece i out at r store′ out′
+frame-taken store have piece i out at r store′ out′ none inside feed tried =
+    record {
+      inside = λ e. inside;
+      taken = λ e line room.
+          let whole = frame-line store (part i frameLength piece) (tried .long e) (tried .digits e) in
+          let ended = tried .ended e in
+          rw (none, part-line piece i inside, feed)
+          (record {
+            state = rw (whole .0, ended .made);
+            short = omega arith;
+            room = room;
+            text = rw (whole .1) (ended .text);
+            count = rw (whole .1) (ap (λ (n : ℕ). at + n) (ended .count));
+            small = simp length-append (omega arith);
+          });
+      sameStore = tried .sameStore;
+      sameText = tried .sameText;
+    }
+
+-- what was taken of a piece, a frame or a byte
+
+pub some-frame : (store line : List ℕ) (have : ℕ) (piece : List ℕ) (i : ℕ) (out : List ℕ) (at : ℕ) (r : Bool) (store′ out′ : List ℕ)
+    → length line ≡ lineRoom → r ≡ true → FrameTaken store have piece i out at r store′ out′
+    → SomeTaken (held store line have) piece i out at (record { kept = 0; wrote = at + textLength; next = i + lineRoom }) store′ line out′
+some-frame store line have piece i out at r store′ out′ room took frame =
+    let width : i + lineRoom - i ≡ lineRoom = omega arith in
+    record { more = omega arith; inside = frame .inside took; taken = rw width (frame .taken took line room) }
+
+pub some-byte : (store line : List ℕ) (have : ℕ) (piece : List ℕ) (i : ℕ) (out : List ℕ) (at : ℕ) (r : Bool) (store₁ out₁ : List ℕ)
+    → i < length piece → r ≡ false → FrameTaken store have piece i out at r store₁ out₁
+    → (have′ wrote : ℕ) (store′ line′ out′ : List ℕ)
+    → BytesTaken (held store₁ line have) (getD piece i 0 ∷ []) out₁ at have′ wrote store′ line′ out′
+    → SomeTaken (held store line have) piece i out at (record { kept = have′; wrote = wrote; next = i + 1 }) store′ line′ out′
+some-byte store line have piece i out at r store₁ out₁ inside none frame have′ wrote store′ line′ out′ byte =
+    let width : i + 1 - i ≡ 1 = omega arith in
+    record {
+      more = omega arith;
+      inside = omega arith;
+      taken = rw (width, part-one piece i inside) (rw (frame .sameStore none, frame .sameText none) at byte);
     }
 
 -- ---- text in a buffer
@@ -134,6 +244,10 @@ module _ (at : ℕ) (t out : List ℕ) (fits : at + length t ≤ length out) whe
 
 -- ---- the bytes of a piece
 
+part-behind : (i k : ℕ) (piece : List ℕ) → take (i + k) piece ≡ take i piece ++ part i k piece
+unfolding part
+part-behind i k piece = take-add i k piece
+
 pub fed-none : (store line out : List ℕ) (have : ℕ) → length line ≡ lineRoom → have ≤ lineRoom
     → FedBy (held store line have) [] out (record { have = have; wrote = 0 }) store line out
 unfolding afterBytes printedBy
@@ -142,41 +256,44 @@ fed-none store line out have room short =
 
 module _
     (u : Unfinished)
-    (bytes first store line out : List ℕ)
-    (have wrote b : ℕ)
+    (bytes more first store line out : List ℕ)
+    (have wrote : ℕ)
     (fed : FedBy u bytes first (record { have = have; wrote = wrote }) store line out)
-    (fits : textLength * length bytes + textLength ≤ length out)
-    (r : Fed)
+    (fits : textLength * (length bytes + length more) ≤ length out)
+    (have′ wrote′ : ℕ)
     (store′ line′ out′ : List ℕ)
-    (taken : ByteTaken (held store line have) b out wrote r store′ line′ out′)
+    (taken : BytesTaken (held store line have) more out wrote have′ wrote′ store′ line′ out′)
   where
     printed : List ℕ
-    printed = printedAt (held store line have) b
+    printed = printedBy (held store line have) more
 
-    pub fed-byte : FedBy u (bytes ++ (b ∷ [])) first r store′ line′ out′
-    unfolding afterBytes printedBy printed
-    fed-byte =
+    fed-more : FedBy u (bytes ++ more) first (record { have = have′; wrote = wrote′ }) store′ line′ out′
+    unfolding printed
+    fed-more =
         let inside : wrote + length printed ≤ length out = omega (arith, taken .count, taken .small, fed .small) in
         record {
-          state = taken .state ∙ ap (λ (v : Unfinished). afterByte v b) (fed .state) ∙ sym (fed-in-pieces .cutState u bytes (b ∷ []));
+          state = taken .state ∙ ap (λ (v : Unfinished). afterBytes v more) (fed .state) ∙ sym (fed-in-pieces .cutState u bytes more);
           short = taken .short;
           room = taken .room;
-          text =
-              rw (taken .count, taken .text, take-text wrote printed out inside, fed .text, fed .state, fed-in-pieces .cutText u bytes (b ∷ []), append-nil);
+          text = rw (taken .count, taken .text, take-text wrote printed out inside, fed .text, fed .state, fed-in-pieces .cutText u bytes more);
           behind = rw (taken .count, taken .text) (behind-both wrote printed out inside first (fed .behind));
           small = rw length-append (omega (arith, taken .small, fed .small));
         }
 
 pub fed-next : (u : Unfinished) (piece first store line out : List ℕ) (i have wrote : ℕ)
     → FedBy u (take i piece) first (record { have = have; wrote = wrote }) store line out
-    → i < length piece → textLength * length piece ≤ length out
-    → (r : Fed) (store′ line′ out′ : List ℕ)
-    → ByteTaken (held store line have) (getD piece i 0) out wrote r store′ line′ out′
-    → FedBy u (take (i + 1) piece) first r store′ line′ out′
-fed-next u piece first store line out i have wrote fed inside fits r store′ line′ out′ taken =
-    let counted : length (take i piece) ≡ i = length-take-le i piece (omega arith) in
-    rw (add-one, take-suc piece i 0 inside)
-    (fed-byte u (take i piece) first store line out have wrote (getD piece i 0) fed (rw counted (omega arith)) r store′ line′ out′ taken)
+    → textLength * length piece ≤ length out
+    → (r : Taken) (store′ line′ out′ : List ℕ)
+    → SomeTaken (held store line have) piece i out wrote r store′ line′ out′
+    → FedBy u (take (r .next) piece) first (record { have = r .kept; wrote = r .wrote }) store′ line′ out′
+fed-next u piece first store line out i have wrote fed fits r store′ line′ out′ some =
+    let width : i + (r .next - i) ≡ r .next = omega (arith, some .more) in
+    let parts : take (r .next) piece ≡ take i piece ++ part i (r .next - i) piece =
+    ap (λ (n : ℕ). take n piece) (sym width) ∙ part-behind i (r .next - i) piece in
+    let counted : length (take i piece) ≡ i = length-take-le i piece (omega (arith, some .more, some .inside)) in
+    let more : length (part i (r .next - i) piece) ≡ r .next - i = length-part i (r .next - i) piece (omega (arith, some .inside)) in
+    rw parts
+    (fed-more u (take i piece) (part i (r .next - i) piece) first store line out have wrote fed (rw (counted, more) (omega (arith, some .more, some .inside))) (r .kept) (r .wrote) store′ line′ out′ (some .taken))
 
 -- ---- the end of the input
 

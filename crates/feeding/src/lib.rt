@@ -3,17 +3,25 @@
 // Wherever it is cut, the texts of an input's pieces and the text at its end, one behind the other, are the program's output: by the
 // claim frame_text::claims::input_is_fed_in_pieces, each piece being fed to the state that the one before left.
 ghost use mathlib.Core.Path.{_≡_};
-ghost use Prim.Native.Nat.{_+_, _*_, _≤_};
+ghost use mathlib.Core.List.{[], _∷_};
+ghost use Prim.Native.Nat.{_+_, _*_, _≤_, _<_};
 ghost use lib.ListN.{length, take};
 ghost use Rattle.model.specs.Store.{fresh};
 ghost use Rattle.frame_text.specs.Feeding.{kept};
-ghost use Rattle.feeding.specs.Fed.{lineRoom, textLength, held, LineEnded, ByteTaken, FedBy, Finished, AllFed};
+ghost use Rattle.feeding.specs.Fed.{lineRoom, textLength, held, FrameMade, LineEnded, BytesTaken, FrameTaken, SomeTaken, FedBy, Finished, AllFed};
 use frame_text::Frame;
 
 // How many bytes the unfinished line has, and how many bytes of text were written.
 pub struct Fed {
     pub have: usize,
     pub wrote: usize,
+}
+
+// The same after some more bytes of a piece, and the index of the next one.
+struct Taken {
+    kept: usize,
+    wrote: usize,
+    next: usize,
 }
 
 // 41,728
@@ -38,10 +46,10 @@ pub fn feed(store: &mut [u8], line: &mut [u8], have: usize, piece: &[u8], out: &
     let mut wrote = 0;
     let mut i = 0;
     while i < piece.len() {
-        let fed = take_byte(store, line, kept, piece[i], out, wrote);
-        kept = fed.have;
-        wrote = fed.wrote;
-        i += 1;
+        let taken = take_some(store, line, kept, piece, i, out, wrote);
+        kept = taken.kept;
+        wrote = taken.wrote;
+        i = taken.next;
     }
     Fed { have: kept, wrote }
 }
@@ -68,6 +76,60 @@ pub fn feed_all(store: &mut [u8], line: &mut [u8], input: &[u8], out: &mut [u8])
     wrote + finish(store, line, have, &mut out[wrote..])
 }
 
+// Feeds the frame that lies whole in a piece from index i on, or one byte where none does, with `at` bytes of text written before.
+fn take_some(
+    store: &mut [u8],
+    line: &mut [u8],
+    have: usize,
+    piece: &[u8],
+    i: usize,
+    out: &mut [u8],
+    at: usize,
+) -> Taken
+    requires { ⌜ (length (now line) ≡ lineRoom) × (have ≤ lineRoom) × (i < length (now piece)) × (at + textLength ≤ length (now out)) ⌝ }
+    ensures { λ r. ⌜ SomeTaken (held (now (store .entry)) (now (line .entry)) have) (now (piece .entry)) i (now (out .entry)) at r (now (store .exit)) (now (line .exit)) (now (out .exit)) ⌝ }
+{
+    if take_frame(store, have, piece, i, out, at) {
+        return Taken {
+            kept: 0,
+            wrote: at + TEXT_LENGTH,
+            next: i + LINE_ROOM,
+        };
+    }
+    let fed = take_byte(store, line, have, piece[i], out, at);
+    Taken {
+        kept: fed.have,
+        wrote: fed.wrote,
+        next: i + 1,
+    }
+}
+
+// Feeds a line that lies whole in a piece from index i on, if it is a frame and no line was begun before it; answers whether it did.
+// Such a line is not copied: its call is made from where it lies.
+fn take_frame(
+    store: &mut [u8],
+    have: usize,
+    piece: &[u8],
+    i: usize,
+    out: &mut [u8],
+    at: usize,
+) -> bool
+    requires { ⌜ (i < length (now piece)) × (at + textLength ≤ length (now out)) ⌝ }
+    ensures { λ r. ⌜ FrameTaken (now (store .entry)) have (now (piece .entry)) i (now (out .entry)) at r (now (store .exit)) (now (out .exit)) ⌝ }
+{
+    if have != 0 {
+        return false;
+    }
+    if piece.len() - i < LINE_ROOM {
+        return false;
+    }
+    let end = i + frame_text::FRAME_LENGTH;
+    if piece[end] != LINE_FEED {
+        return false;
+    }
+    make_frame(store, &piece[i..end], out, at)
+}
+
 // Feeds one byte, with `at` bytes of text written before.
 fn take_byte(
     store: &mut [u8],
@@ -78,7 +140,7 @@ fn take_byte(
     at: usize,
 ) -> Fed
     requires { ⌜ (length (now line) ≡ lineRoom) × (have ≤ lineRoom) × (at + textLength ≤ length (now out)) ⌝ }
-    ensures { λ r. ⌜ ByteTaken (held (now (store .entry)) (now (line .entry)) have) byte (now (out .entry)) at r (now (store .exit)) (now (line .exit)) (now (out .exit)) ⌝ }
+    ensures { λ r. ⌜ BytesTaken (held (now (store .entry)) (now (line .entry)) have) (byte ∷ []) (now (out .entry)) at (r .have) (r .wrote) (now (store .exit)) (now (line .exit)) (now (out .exit)) ⌝ }
 {
     if byte == LINE_FEED {
         let wrote = end_line(store, &line[..have], out, at);
@@ -110,16 +172,26 @@ fn end_line(store: &mut [u8], line: &[u8], out: &mut [u8], at: usize) -> usize
     requires { ⌜ at + textLength ≤ length (now out) ⌝ }
     ensures { λ r. ⌜ LineEnded (now (store .entry)) (now (line .entry)) (now (out .entry)) at r (now (store .exit)) (now (out .exit)) ⌝ }
 {
+    if make_frame(store, line, out, at) {
+        return TEXT_LENGTH;
+    }
+    frame_text::write_bad(out, at);
+    BAD_LENGTH
+}
+
+// Makes the call of a line that is a frame and writes its answer from index `at` on; leaves all as it is for any other line.
+// Answers whether it was a frame.
+fn make_frame(store: &mut [u8], line: &[u8], out: &mut [u8], at: usize) -> bool
+    requires { ⌜ at + textLength ≤ length (now out) ⌝ }
+    ensures { λ r. ⌜ FrameMade (now (store .entry)) (now (line .entry)) (now (out .entry)) at r (now (store .exit)) (now (out .exit)) ⌝ }
+{
     let frame = frame_text::parse(line);
     match frame {
         Frame::Made { stream, call } => {
             let answer = listening::make(store, stream, call);
             frame_text::write_answer(answer, out, at);
-            TEXT_LENGTH
+            true
         }
-        Frame::Bad => {
-            frame_text::write_bad(out, at);
-            BAD_LENGTH
-        }
+        Frame::Bad => false,
     }
 }

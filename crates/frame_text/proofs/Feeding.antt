@@ -1,15 +1,19 @@
 -- The program fed in pieces prints what it prints for its lines. Assumes nothing.
 use mathlib.Core.Path.{_≡_, refl, sym, ap, _∙_}
-use mathlib.Core.Logic.{_⊎_, inl, inr}
-use mathlib.Core.Bool.{Bool, true, false, cond}
+use mathlib.Core.Logic.{_⊎_, inl, inr, ⊎-elim}
+use mathlib.Core.Bool.{Bool, true, false, cond, _&&_}
 use mathlib.Core.List.{List, [], _∷_, _++_, append-nil, append-assoc}
 use Prim.Native.Nat.{ℕ, _+_, _≤_, _<_}
 use native.Mathlib.Omega.{arith}
-use borrow.Author.Tests.{ne-eqb, leb-true, leb-false}
-use lib.Dec.{eqb, leb}
+use borrow.Author.Tests.{eqb-true, ne-eqb, le-leb, leb-true, leb-false}
+use lib.Dec.{T, eqb, leb}
 use lib.ListN.{length, length-append}
+use Rattle.model.specs.declared.Call.{Call}
 use Rattle.model.specs.Store.{fresh}
-use Rattle.frame_text.specs.declared.Frame.the-variants.{Bad}
+use Rattle.model.proofs.Booleans.{both-of, both-true, of-holds}
+use Rattle.frame_text.specs.declared.Frame.{Frame}
+use Rattle.frame_text.specs.declared.Frame.the-variants.{Made, Bad}
+use Rattle.frame_text.specs.Digits.{digit, allDigits}
 use Rattle.frame_text.specs.Frames.{frameLength, frameOf}
 use Rattle.frame_text.specs.Answers.{lineFeed}
 use Rattle.frame_text.specs.Program.{before, lines, onLine, LineOutcome, outputFrom, output}
@@ -25,6 +29,7 @@ use Rattle.frame_text.specs.Feeding.{
   atEnd,
 }
 use Rattle.frame_text.specs.Claims.{FedInPieces}
+use Rattle.frame_text.proofs.Laws.{digit-range}
 
 -- the bytes of an unfinished line before the lines that follow
 abbrev joined : List ℕ → List (List ℕ) → List (List ℕ)
@@ -145,6 +150,47 @@ short-line u (b ∷ bytes) h = short-line (afterByte u b) bytes (go (eqb b lineF
     go : (t : Bool) → length (cond {A = Unfinished} t (record { store = onLine (u .store) (u .line) .store; line = [] }) (record { store = u .store; line = kept (u .line) b }) .line) ≤ frameLength + 1
     go true = omega arith
     go false = short-kept (u .line) b h
+
+-- ---- a frame's line, fed whole
+
+digit-goes-on : (b : ℕ) → T (digit b) → eqb b lineFeed ≡ false
+digit-goes-on b h = ne-eqb b lineFeed (λ e. ⊎-elim (λ w. omega arith) (λ w. omega arith) (digit-range b h))
+
+-- digits print nothing, and all of them are kept where there is room
+digits-go-on : (store line bytes : List ℕ) → T (allDigits bytes) → length line + length bytes ≤ frameLength
+    → (afterBytes (record { store = store; line = line }) bytes ≡ record { store = store; line = line ++ bytes })
+    × (printedBy (record { store = store; line = line }) bytes ≡ [])
+unfolding allDigits afterBytes printedBy afterByte printedAt kept
+digits-go-on store line [] h fits = (ap (λ (l : List ℕ). record { store = store; line = l }) (sym (append-nil line)), refl)
+digits-go-on store line (b ∷ bytes) h fits =
+    let parts : T (digit b) × T (allDigits bytes) = both-of (digit b) (allDigits bytes) h in
+    let room : leb (length line) frameLength ≡ true = le-leb (length line) frameLength (omega arith) in
+    let more = digits-go-on store (line ++ (b ∷ [])) bytes (parts .1) (rw length-append (omega arith)) in
+    rw (digit-goes-on b (parts .0), room, ← append-assoc line (b ∷ []) bytes) more
+
+-- a frame's 44 digits and a line feed, where no line is begun, make its call and print its text
+pub frame-line : (store line : List ℕ) → length line ≡ frameLength → T (allDigits line)
+    → (afterBytes (record { store = store; line = [] }) (line ++ (lineFeed ∷ [])) ≡ record { store = onLine store line .store; line = [] })
+    × (printedBy (record { store = store; line = [] }) (line ++ (lineFeed ∷ [])) ≡ onLine store line .text)
+unfolding afterBytes printedBy afterByte printedAt
+frame-line store line long h =
+    let start : Unfinished = record { store = store; line = [] } in
+    let read = digits-go-on store [] line h (omega arith) in (
+      rw (cut-state start line (lineFeed ∷ []), read .0),
+      rw (cut-text start line (lineFeed ∷ []), read .0, read .1) (append-nil _),
+    )
+
+-- a line that makes a call is 44 digits
+pub frame-digits : (line : List ℕ) (stream : ℕ) (c : Call) → frameOf line ≡ Made stream c → (length line ≡ frameLength) × T (allDigits line)
+unfolding frameOf
+frame-digits line stream c e = go (eqb (length line) frameLength && allDigits line) _ refl e
+  where
+    go : (t : Bool) (f : Frame) → (eqb (length line) frameLength && allDigits line) ≡ t → cond t f Bad ≡ Made stream c
+        → (length line ≡ frameLength) × T (allDigits line)
+    go true f test made =
+        let both : (eqb (length line) frameLength ≡ true) × (allDigits line ≡ true) = both-true (eqb (length line) frameLength) (allDigits line) test in
+        (eqb-true (length line) frameLength (both .0), of-holds (allDigits line) (both .1))
+    go false f test made = absurd (let never : _≡_ {A = ℕ} 0 1 = cc in let none : ⊥ = omega arith in none)
 
 pub fed-in-pieces : FedInPieces
 unfolding begun output

@@ -8,41 +8,21 @@ use native.Mathlib.Nat.{add-zero, zero-add, add-suc, suc-add, pow-suc}
 use native.Mathlib.Omega.{arith}
 use borrow.Author.Tests.{ltb-true, ltb-false, leb-true, le-leb, lt-leb}
 use lib.Dec.{T, leb, ltb, lit<}
-use lib.ListN.{length, take, drop, getD, set, length-append, length-take, length-drop}
-use lib.Seq.{getD-take, getD-drop}
+use lib.ListN.{length, take, drop, set, length-append, length-drop, take-append-drop}
+use lib.Seq.{take-all, drop-drop}
 use Rattle.little.specs.Little.{part, written}
 use Rattle.little.proofs.Laws.{set-written, written-next, length-written}
 use Rattle.model.specs.declared.Answer.{Answer}
 use Rattle.model.specs.Stations.{within}
-use Rattle.model.proofs.Booleans.{both-of, both}
+use Rattle.model.proofs.Booleans.{both-of, both, holds-of, of-holds, never-both}
 use Rattle.frame_text.specs.Digits.{digit, allDigits, digitValue, digitOf, goneOn, hexValue, digitsOf}
+use Rattle.frame_text.specs.Frames.{frameLength}
 use Rattle.frame_text.specs.Answers.{answerText, badText}
 use Rattle.frame_text.specs.Claims.{ReadAsWritten}
 
 -- ---- digits
 
--- a byte is a digit by the range that it stands in
-pub decimal-digit : (b : ℕ) → 48 ≤ b → b ≤ 57 → digit b ≡ true
-unfolding digit within
-decimal-digit b low high = simp (le-leb 48 b low, le-leb b 57 high)
-
-pub letter-digit : (b : ℕ) → 97 ≤ b → b ≤ 102 → digit b ≡ true
-unfolding digit within
-letter-digit b low high = simp (le-leb 48 b (omega arith), lt-leb b 57 (omega arith), le-leb 97 b low, le-leb b 102 high)
-
-pub no-digit-below : (b : ℕ) → b < 48 → digit b ≡ false
-unfolding digit within
-no-digit-below b h = simp (lt-leb 48 b h, lt-leb 97 b (omega arith))
-
-pub no-digit-between : (b : ℕ) → 57 < b → b < 97 → digit b ≡ false
-unfolding digit within
-no-digit-between b low high = simp (le-leb 48 b (omega arith), lt-leb b 57 low, lt-leb 97 b high)
-
-pub no-digit-above : (b : ℕ) → 102 < b → digit b ≡ false
-unfolding digit within
-no-digit-above b h = simp (le-leb 48 b (omega arith), lt-leb b 57 (omega arith), le-leb 97 b (omega arith), lt-leb b 102 h)
-
-digit-range : (b : ℕ) → T (digit b) → ((48 ≤ b) × (b ≤ 57)) ⊎ ((97 ≤ b) × (b ≤ 102))
+pub digit-range : (b : ℕ) → T (digit b) → ((48 ≤ b) × (b ≤ 57)) ⊎ ((97 ≤ b) × (b ≤ 102))
 unfolding digit within
 digit-range b h = go (leb 48 b) refl (leb b 57) refl (leb 97 b) refl (leb b 102) refl h
   where
@@ -56,13 +36,7 @@ digit-range b h = go (leb 48 b) refl (leb b 57) refl (leb 97 b) refl (leb b 102)
     go false p u q true r false s h = absurd h
     go false p u q false r w s h = absurd h
 
-pub decimal-from : (b : ℕ) → T (digit b) → b ≤ 57 → 48 ≤ b
-decimal-from b h small = ⊎-elim (λ w. w .0) (λ w. omega arith) (digit-range b h)
-
-pub letter-within : (b : ℕ) → T (digit b) → 57 < b → (97 ≤ b) × (b ≤ 102)
-letter-within b h large = ⊎-elim (λ w. (omega arith, omega arith)) (λ w. w) (digit-range b h)
-
-digit-below : (b : ℕ) → T (digit b) → digitValue b < 16
+pub digit-below : (b : ℕ) → T (digit b) → digitValue b < 16
 unfolding digitValue
 digit-below b h = ⊎-elim (λ w. simp (le-leb b 57 (w .1)) (omega arith)) (λ w. simp (lt-leb b 57 (omega arith)) (omega arith)) (digit-range b h)
 
@@ -82,19 +56,31 @@ pub digits-part : (at k : ℕ) (s : List ℕ) → T (allDigits s) → T (allDigi
 unfolding part
 digits-part at k s h = digits-take k (drop at s) (digits-drop at s h)
 
-digit-at : (i : ℕ) (s : List ℕ) → T (allDigits s) → i < length s → T (digit (getD s i 0))
-unfolding allDigits
-digit-at i [] h inside = absurd (let never : ⊥ = omega arith in never)
-digit-at zero (b ∷ s) h inside = both-of (digit b) (allDigits s) h .0
-digit-at (suc i) (b ∷ s) h inside = digit-at i s (both-of (digit b) (allDigits s) h .1) (omega arith)
+-- a part that is not all digits spoils the whole
+pub digits-lost : (at k : ℕ) (s : List ℕ) → allDigits (part at k s) ≡ false → allDigits s ≡ false
+digits-lost at k s lost = go (allDigits s) refl
+  where
+    go : (t : Bool) → allDigits s ≡ t → t ≡ false
+    go true e = absurd (never-both (allDigits (part at k s)) (holds-of _ (digits-part at k s (of-holds _ e))) lost)
+    go false e = refl
 
--- every byte of a part that is all digits is one
-pub digit-in-part : (at width i : ℕ) (s : List ℕ) → T (allDigits (part at width s)) → i < width → at + width ≤ length s → T (digit (getD s (at + i) 0))
+digits-append : (s t : List ℕ) → T (allDigits s) → T (allDigits t) → T (allDigits (s ++ t))
+unfolding allDigits
+digits-append [] t hs ht = ht
+digits-append (b ∷ s) t hs ht =
+    let parts : T (digit b) × T (allDigits s) = both-of (digit b) (allDigits s) hs in
+    both (digit b) _ (parts .0) (digits-append s t (parts .1) ht)
+
+-- three parts of sixteen cover a frame's line
+pub digits-covered : (s : List ℕ) → length s ≡ frameLength
+    → T (allDigits (part 0 16 s)) → T (allDigits (part 16 16 s)) → T (allDigits (part 28 16 s)) → T (allDigits s)
 unfolding part
-digit-in-part at width i s h inside fits =
-    let found : T (digit (getD (take width (drop at s)) i 0)) =
-    digit-at i (take width (drop at s)) h (simp (length-take, length-drop) (omega arith)) in
-    rw (getD-take width (drop at s) i 0 inside, getD-drop at s i 0) at found
+digits-covered s long first second third =
+    let all : take 16 (drop 28 s) ≡ drop 28 s = take-all 16 (drop 28 s) (simp length-drop (omega arith)) in
+    let last : T (allDigits (drop 32 s)) = rw (all, drop-drop 4 28 s) at (digits-drop 4 (take 16 (drop 28 s)) third) in
+    let rest : T (allDigits (drop 16 s)) =
+    rw (take-append-drop 16 (drop 16 s)) at (digits-append (take 16 (drop 16 s)) (drop 16 (drop 16 s)) second (rw (drop-drop 16 16 s) last)) in
+    rw (take-append-drop 16 s) at (digits-append (take 16 s) (drop 16 s) first rest)
 
 -- ---- a number and its digits
 

@@ -6,9 +6,9 @@ ghost use mathlib.Core.List.{[], _∷_};
 ghost use Prim.Native.Nat.{_+_, _<_, _≤_};
 ghost use lib.Dec.{T};
 ghost use lib.ListN.{length};
-ghost use Rattle.little.specs.Little.{part, written};
-ghost use Rattle.frame_text.specs.Digits.{digit, allDigits, digitValue, digitOf, hexValue, digitsOf};
-ghost use Rattle.frame_text.specs.Frames.{allZero, madeIf, numbered, frameOf};
+ghost use Rattle.little.specs.Little.{value, part, written};
+ghost use Rattle.frame_text.specs.Digits.{digit, allDigits, digitOf, hexValue, digitsOf};
+ghost use Rattle.frame_text.specs.Frames.{frameLength, allZero, madeIf, numbered, frameOf};
 ghost use Rattle.frame_text.specs.Answers.{answerText, badText};
 use model::Answer;
 use model::Call;
@@ -21,9 +21,13 @@ pub enum Frame {
     Bad,
 }
 
-const FRAME_LENGTH: usize = 44;
+// A call's and a stream's two digits, and eight for each of five arguments.
+pub const FRAME_LENGTH: usize = 44;
 
 const LINE_FEED: u8 = 10;
+
+// As many digits as are tested at once: a loop over so many bytes is compiled to a step or two.
+const TESTED: usize = 16;
 
 // The frame in a line, which is given without its line feed.
 pub fn parse(line: &[u8]) -> Frame
@@ -35,14 +39,16 @@ pub fn parse(line: &[u8]) -> Frame
     if !all_digits(line) {
         return Frame::Bad;
     }
+    // Eight digits are read at once: here the call's two, the stream's two, and four that are read again.
+    let head = word_at(line, 0);
     by_number(
-        value_at(line, 0, 2),
-        value_at(line, 2, 2),
-        value_at(line, 4, 8),
-        value_at(line, 12, 8),
-        value_at(line, 20, 8),
-        value_at(line, 28, 8),
-        value_at(line, 36, 8),
+        head / 16777216,
+        head / 65536 % 256,
+        word_at(line, 4),
+        word_at(line, 12),
+        word_at(line, 20),
+        word_at(line, 28),
+        word_at(line, 36),
     )
 }
 
@@ -52,9 +58,9 @@ pub fn write_answer(answer: Answer, out: &mut [u8], at: usize)
     ensures { λ _. ⌜ now (out .exit) ≡ written at (answerText answer) (now (out .entry)) ⌝ }
 {
     put_digits(out, at, 2, answer.refusal);
-    put_digits(out, at + 2, 8, answer.first);
-    put_digits(out, at + 10, 8, answer.second);
-    put_digits(out, at + 18, 8, answer.third);
+    put_word(out, at + 2, answer.first);
+    put_word(out, at + 10, answer.second);
+    put_word(out, at + 18, answer.third);
     out[at + 26] = LINE_FEED;
 }
 
@@ -144,15 +150,29 @@ fn all_zero(a: u32, b: u32, c: u32, d: u32, e: u32) -> bool
     e == 0
 }
 
+// Whether the 44 bytes of a line are digits: three times sixteen, of which the last begin with four tested before.
 fn all_digits(line: &[u8]) -> bool
+    requires { ⌜ length (now line) ≡ frameLength ⌝ }
     ensures { λ r. ⌜ r ≡ allDigits (now (line .entry)) ⌝ }
+{
+    if !digits_at(line, 0) {
+        return false;
+    }
+    if !digits_at(line, 16) {
+        return false;
+    }
+    digits_at(line, 28)
+}
+
+// Whether the sixteen bytes of line from index `at` on are digits.
+fn digits_at(line: &[u8], at: usize) -> bool
+    requires { ⌜ at + 16 ≤ length (now line) ⌝ }
+    ensures { λ r. ⌜ r ≡ allDigits (part at 16 (now (line .entry))) ⌝ }
 {
     let mut all = true;
     let mut i = 0;
-    while i < line.len() {
-        if !is_digit(line[i]) {
-            all = false;
-        }
+    while i < TESTED {
+        all = all & is_digit(line[at + i]);
         i += 1;
     }
     all
@@ -161,36 +181,41 @@ fn all_digits(line: &[u8]) -> bool
 fn is_digit(b: u8) -> bool
     ensures { λ r. ⌜ r ≡ digit b ⌝ }
 {
-    match b {
-        b'0'..=b'9' => true,
-        b'a'..=b'f' => true,
-        _ => false,
-    }
+    ((b'0' <= b) & (b <= b'9')) | ((b'a' <= b) & (b <= b'f'))
 }
 
-// The number that the `width` digits of line from index `at` on stand for.
-fn value_at(line: &[u8], at: usize, width: usize) -> u32
-    requires { ⌜ (at + width ≤ length (now line)) × (width ≤ 8) × T (allDigits (part at width (now line))) ⌝ }
-    ensures { λ r. ⌜ r ≡ hexValue (part at width (now (line .entry))) ⌝ }
+// The number that the eight digits of line from index `at` on stand for. They are worked on side by side, in the bytes of one
+// number: each digit's value first, and then the values of two, of four and of all eight.
+fn word_at(line: &[u8], at: usize) -> u32
+    requires { ⌜ (at + 8 ≤ length (now line)) × T (allDigits (part at 8 (now line))) ⌝ }
+    ensures { λ r. ⌜ r ≡ hexValue (part at 8 (now (line .entry))) ⌝ }
 {
-    let mut n: u32 = 0;
-    let mut i = 0;
-    while i < width {
-        n = n * 16 + digit_value(line[at + i]);
-        i += 1;
-    }
-    n
+    let text = little::get_u64(line, at);
+    let ones = (text & 0x0f0f_0f0f_0f0f_0f0f) + ((text / 64) & 0x0101_0101_0101_0101) * 9;
+    let twos = (ones * 16 + ones / 256) & 0x00ff_00ff_00ff_00ff;
+    let fours = (twos * 256 + twos / 65536) & 0x0000_ffff_0000_ffff;
+    ((fours * 65536 + fours / 4294967296) & 0xffff_ffff) as u32
 }
 
-fn digit_value(b: u8) -> u32
-    requires { ⌜ T (digit b) ⌝ }
-    ensures { λ r. ⌜ (r ≡ digitValue b) × (r < 16) ⌝ }
+// Writes the eight digits of n into out from index `at` on.
+fn put_word(out: &mut [u8], at: usize, n: u32)
+    requires { ⌜ at + 8 ≤ length (now out) ⌝ }
+    ensures { λ _. ⌜ now (out .exit) ≡ written at (digitsOf 8 n) (now (out .entry)) ⌝ }
 {
-    if b <= b'9' {
-        (b - b'0') as u32
-    } else {
-        (b - b'a') as u32 + 10
-    }
+    little::put_u64(out, at, word_text(n));
+}
+
+// The eight digits of n in the bytes of one number, the first in the lowest. They are worked on side by side: n is taken apart into
+// halves, bytes and digits, and then all digits are made text, a letter 39 further on than a decimal.
+fn word_text(n: u32) -> u64
+    ensures { λ r. ⌜ r ≡ value (digitsOf 8 n) ⌝ }
+{
+    let whole = n as u64;
+    let fours = ((whole / 65536) & 0xffff) + (whole & 0xffff) * 4294967296;
+    let twos = ((fours / 256) & 0x0000_00ff_0000_00ff) + (fours & 0x0000_00ff_0000_00ff) * 65536;
+    let ones = ((twos / 16) & 0x000f_000f_000f_000f) + (twos & 0x000f_000f_000f_000f) * 256;
+    let letters = ((ones + 0x0606_0606_0606_0606) / 16) & 0x0101_0101_0101_0101;
+    ones + 0x3030_3030_3030_3030 + letters * 39
 }
 
 // Writes the last `width` digits of n into out from index `at` on.

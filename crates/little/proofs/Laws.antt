@@ -141,11 +141,6 @@ module _ (at : ℕ) (b s : List ℕ) (fits : at + length b ≤ length s) where
   part-written-elsewhere j k (inl h) = part-ext j k _ s length-written (λ i from to. written-elsewhere i (inl (omega arith)))
   part-written-elsewhere j k (inr h) = part-ext j k _ s length-written (λ i from to. written-elsewhere i (inr (omega arith)))
 
-  -- of two writes to the same place the later wins
-  pub written-twice : (a : List ℕ) → length a ≡ length b → written at a (written at b s) ≡ written at a s
-  unfolding written
-  written-twice a e = rw (take-written, e, drop-written)
-
 -- a write of no bytes changes nothing
 pub written-nil : (at : ℕ) (s : List ℕ) → written at [] s ≡ s
 unfolding written
@@ -164,13 +159,6 @@ written-next at a b s h =
     let after : drop (at + length a + length b) (written at a s) ≡ drop (at + length a + length b) s =
     sym (drop-drop (length b) _ (written at a s)) ∙ ap (drop (length b)) (drop-written at a s fits) ∙ drop-drop (length b) _ s in
     rw (take-through at a s fits, after) (simp (length-append, append-assoc, add-assoc))
-
--- what is put is got back
-pub put-then-get : (at k : ℕ) {n : ℕ} (s : List ℕ) → at + k ≤ length s → n < 256 ^ k → value (part at k (written at (bytes k n) s)) ≡ n
-put-then-get at k {n} s fits h =
-    let put : part at k (written at (bytes k n) s) ≡ bytes k n =
-    rw length-bytes at (part-written at (bytes k n) s (omega (arith, length-bytes k n))) in
-    rw put (value-bytes k h)
 
 -- a part, and what stands behind it
 pub part-and-rest : (at k : ℕ) (s : List ℕ) → part at k s ++ drop (at + k) s ≡ drop at s

@@ -114,21 +114,17 @@ then-set at {next} a x s {t} p e h =
 never : {b : Bool} → b ≡ true → b ≡ false → ⊥
 never t f = let z : _≡_ {A = ℕ} 0 1 = cc in omega arith
 
--- an answer that is no, of what does not hold
-pub refuted : {P : Type 0} → (P → ⊥) → Decides false P
-refuted nay = record { shows = λ e. absurd (never e refl); shown = λ p. absurd (nay p) }
-
 -- an answer that is yes, of what holds
 pub proven : {P : Type 0} → P → Decides true P
 proven p = record { shows = λ e. p; shown = λ q. refl }
 
+-- an answer that is no, of what does not hold
+pub refuted : {P : Type 0} → (P → ⊥) → Decides false P
+refuted nay = record { shows = λ e. absurd (never e refl); shown = λ p. absurd (nay p) }
+
 -- what was decided not to hold does not
 pub decided-not : {b : Bool} {P : Type 0} → Decides b P → b ≡ false → P → ⊥
 decided-not d e p = never (d .shown p) e
-
--- what decides a statement decides one that says as much
-pub decides-same : {b : Bool} {P Q : Type 0} → (P → Q) → (Q → P) → Decides b P → Decides b Q
-decides-same to from d = record { shows = λ e. to (d .shows e); shown = λ q. d .shown (from q) }
 
 -- where a part of the bytes is not what it is to be, they are not
 pub part-differs : (at m j k : ℕ) (s w : List ℕ) → j + k ≤ m → (part (at + j) k s ≡ part j k w → ⊥) → Decides false (part at m s ≡ w)

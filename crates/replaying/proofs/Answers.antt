@@ -16,10 +16,6 @@ use Rattle.rules.specs.Replayed.{accepts}
 use Rattle.replaying.specs.Replaying.{entryOf, wellFormed, stands, entered, soundAt, unsoundAt, NoMore}
 
 module _ (p : Plan) (f : Figures) (i : ℕ) (r : Record) where
-  pub not-formed : wellFormed r ≡ false → entered p f i r ≡ unsoundAt f
-  unfolding entered stands unsoundAt
-  not-formed e = simp (e)
-
   -- a well-formed record of an entry stands where the entry is accepted
   pub formed : (e : Entry) → wellFormed r ≡ true → entryOf p f r ≡ e
       → entered p f i r ≡ record { sound = accepts p f i e; figures = cond (accepts p f i e) (stepped p e f) f }
@@ -30,10 +26,6 @@ module _ (p : Plan) (f : Figures) (i : ℕ) (r : Record) where
       → entered p f i r ≡ soundAt (stepped p e f)
   unfolding soundAt
   accepted e w same a = rw (formed e w same, a)
-
-  pub not-accepted : (e : Entry) → wellFormed r ≡ true → entryOf p f r ≡ e → accepts p f i e ≡ false → entered p f i r ≡ unsoundAt f
-  unfolding unsoundAt
-  not-accepted e w same a = rw (formed e w same, a)
 
   -- a lot's record, and that of a run, block or stop
   pub lot-formed : r .kind ≡ 1 → r .spare ≡ 0 → r .flag ≡ 0 → wellFormed r ≡ true
@@ -95,16 +87,6 @@ no-more r more e none =
       noThird = eqb-true (r .c) 0 (two .1);
       noFourth = eqb-true (r .d) 0 (all .1);
     }
-
--- an entry is accepted where its refusal number is 0
-pub accepts-zero : (p : Plan) (f : Figures) (i : ℕ) (e : Entry) (n : ℕ) → n ≡ firstOf (entryRefusals p f i e) → n ≡ 0 → accepts p f i e ≡ true
-unfolding accepts
-accepts-zero p f i e n same zero = rw (← same, zero)
-
-pub accepts-other : (p : Plan) (f : Figures) (i : ℕ) (e : Entry) (n : ℕ) → n ≡ firstOf (entryRefusals p f i e) → (n ≡ 0 → ⊥)
-    → accepts p f i e ≡ false
-unfolding accepts
-accepts-other p f i e n same other = rw (← same) (ne-eqb n 0 other)
 
 pub accepted-zero : (p : Plan) (f : Figures) (i : ℕ) (e : Entry) → accepts p f i e ≡ true → firstOf (entryRefusals p f i e) ≡ 0
 unfolding accepts

@@ -19,24 +19,6 @@ use Rattle.model.proofs.Booleans.{both-true, within-of, never-both, not-false-o
 use Rattle.model.proofs.Allowed.{AllowedLot}
 use Rattle.model.proofs.FigureBounds.{lot-size-range}
 
--- a refusal that is last in its list is given exactly where it applies
-pub last-refusal : (b : Bool) → eqb (cond (not b) 13 0) 0 ≡ b
-last-refusal true = refl
-last-refusal false = refl
-
-accepted-without-wrong : (p : Plan) (f : Figures) → verdictOn p f 0 ≡ lotAccepted
-unfolding verdictOn creditVerdict levelVerdict
-accepted-without-wrong p f = go (isCredit p)
-  where
-    go : (b : Bool) → cond b lotAccepted lotAccepted ≡ lotAccepted
-    go true = refl
-    go false = refl
-
--- with nothing wrong in the sample the counts agree where nothing is wrong at all, whatever the sample
-pub none-wrong : (p : Plan) (f : Figures) (N n D : ℕ) → countsAgree (verdictOn p f 0) N n 0 D ≡ eqb D 0
-unfolding countsAgree
-none-wrong p f N n D = simp (accepted-without-wrong p f, leb·zero n, and-true (eqb D 0))
-
 -- the size of a lot that passed refusal 11
 pub size-passed : (p : Plan) (N : ℕ) (out : Bool) → out ≡ not (sizeInRange p N) → out ≡ false → (1 ≤ N) × (N ≤ 1000000)
 size-passed p N out e passed = lot-size-range p N (not-false-of (sizeInRange p N) (sym e ∙ passed))

@@ -17,15 +17,3 @@ withLevel level =
       labelled = false;
       label = 0;
     }
-
--- with another continuous state, and so many more accepted
-unfoldable pub withContinuous : Figures → Continuous → ℕ → Figures
-withContinuous f continuous accepted =
-    record {
-      credit = f .credit;
-      level = f .level;
-      continuous = continuous;
-      accepted = f .accepted + accepted;
-      labelled = f .labelled;
-      label = f .label;
-    }

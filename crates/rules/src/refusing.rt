@@ -17,7 +17,6 @@ ghost use Rattle.model.specs.Calls.{
   countsAgree,
 };
 ghost use Rattle.model.proofs.FigureBounds.{FiguresWithin};
-ghost use Rattle.rules.specs.Replayed.{accepts};
 use crate::asking;
 use crate::plan;
 use model::Entry;
@@ -100,36 +99,6 @@ pub fn lot(
         return 0;
     }
     13
-}
-
-// Whether a lot could have been accepted with the sample that was asked. One with nothing wrong needs no sample worked out.
-pub fn fits_lot(plan: Plan, figures: Figures, label: u32, size: u32, wrong: u32, all: u32) -> bool
-    requires { ⌜ T (validPlan plan) × FiguresWithin 127 figures ⌝ }
-    ensures { λ r. ⌜ ((count : ℕ) → count < 128 → r ≡ accepts plan figures count (Lot label size (sampleAsked plan figures size) wrong all)) ⌝ }
-{
-    if plan.kind == plan::CONTINUOUS {
-        return false;
-    }
-    if is_discontinued(figures) {
-        return false;
-    }
-    if is_same_label(figures, label) {
-        return false;
-    }
-    if is_size_out(plan, size) {
-        return false;
-    }
-    if wrong == 0 {
-        return all == 0;
-    }
-    let sample = asking::sample(plan, figures, size);
-    do_counts_agree(
-        asking::verdict(plan, figures, wrong),
-        size,
-        sample,
-        wrong,
-        all,
-    )
 }
 
 // The refusal of a run.

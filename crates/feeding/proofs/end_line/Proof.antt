@@ -1,25 +1,10 @@
+use Rattle.feeding.proofs.Laws.{bad-line}
 use borrow.Author.Needs.{needs}
-use Rattle.feeding.proofs.Laws.{made-line, bad-line}
 use Rattle.feeding.proofs.end_line.Statement.{statement}
 use Rattle.feeding.proofs.end_line.Tie as tie
 
-parse-requires : tie.Need-parse-requires
-parse-requires c κs = search needs
-
-enum-known-frame : tie.Need-enum-known-frame
-enum-known-frame c = search needs
-
-make-requires : tie.Need-make-requires
-make-requires c κs = search needs
-
-write-answer-requires : tie.Need-write-answer-requires
-write-answer-requires c κs = search needs
-
-enum-told : tie.Need-enum-told
-enum-told c = search needs
-
-write-bad-requires : tie.Need-write-bad-requires
-write-bad-requires c κs = search needs
+make-frame-requires : tie.Need-make-frame-requires
+make-frame-requires c κs = search needs
 
 same-length : tie.Need-same-length
 same-length c = search needs
@@ -28,26 +13,29 @@ same-length-2 : tie.Need-same-length-2
 same-length-2 c = search needs
 
 returns : tie.Need-returns
-returns c = made-line _ _ _ _ _ _ _ _ _ (c .before .before .before .before .before .before .make .ensures) (c .before .before .write-answer .ensures) (cc)
+returns c = c .before .before .before .before .before .make-frame .ensures .ended (c .if1 .taken)
+
+write-bad-requires : tie.Need-write-bad-requires
+write-bad-requires c κs = search needs
 
 same-length-3 : tie.Need-same-length-3
 same-length-3 c = search needs
 
+same-length-4 : tie.Need-same-length-4
+same-length-4 c = search needs
+
 returns-2 : tie.Need-returns-2
-returns-2 c = bad-line _ _ _ _ _ (c .before .before .write-bad .ensures) (cc)
+returns-2 c = bad-line _ _ _ _ _ _ _ _ (c .before .before .before .before .before .before .before .before .before .make-frame .ensures) (c .before .before .before .before .if1 .left) (c .before .before .write-bad .ensures)
 
 pub end-line-spec : {M : Type 1} → statement M
 end-line-spec =
     tie.close
     (tie.spec
-    parse-requires
-    enum-known-frame
-    make-requires
-    write-answer-requires
-    enum-told
-    write-bad-requires
+    make-frame-requires
     same-length
     same-length-2
     returns
+    write-bad-requires
     same-length-3
+    same-length-4
     returns-2)

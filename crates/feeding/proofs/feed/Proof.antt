@@ -25,32 +25,29 @@ loop-holds c =
     let start = c .before .before .before .before in
     (omega arith, refl, refl, fed-none _ _ _ _ (start .pre .0) (start .pre .1))
 
-shared-slice-read-take-byte : tie.Need-shared-slice-read-take-byte Inv-loop μ-loop
-shared-slice-read-take-byte c = omega arith
-
-take-byte-requires : tie.Need-take-byte-requires Inv-loop μ-loop
-take-byte-requires c κs =
-    let at-loop = c .before .before .before .before .before in
+take-some-requires : tie.Need-take-some-requires Inv-loop μ-loop
+take-some-requires c κs =
+    let at-loop = c .before .before .before .before in
     let inv = at-loop .loop .inv in
     let fed = inv .3 in
-    let piece = c .before .before .before .before .before .before .before .before .before .before .args .piece .now in
-    (fed .room, fed .short, omega (arith, fed .small, length-take-le (at-loop .loop .i) piece (inv .0)))
-
-add-i : tie.Need-add-i Inv-loop μ-loop
-add-i c = omega arith
+    let piece = c .before .before .before .before .before .before .before .before .before .args .piece .now in
+    (fed .room, fed .short, omega arith, omega (arith, fed .small, length-take-le (at-loop .loop .i) piece (inv .0)))
 
 loop-less : tie.Need-loop-less Inv-loop μ-loop
-loop-less c = omega arith
+loop-less c =
+    let some = c .before .before .before .before .before .before .take-some .ensures in
+    omega (arith, some .more, some .inside)
 
 loop-again : tie.Need-loop-again Inv-loop μ-loop
 loop-again c =
-    let at-loop = c .before .before .before .before .before .before .before .before .before .before .before .before in
+    let at-loop = c .before .before .before .before .before .before .before .before .before .before .before in
     let inv = at-loop .loop .inv in
-    let start = at-loop .before .before .before .before .before in (
-      omega arith,
+    let start = c .before .before .before .before .before .before .before .before .before .before .before .before .before .before .before .before in
+    let some = c .before .before .before .before .before .before .take-some .ensures in (
+      some .inside,
       search needs,
       search needs,
-      fed-next _ (start .args .piece .now) (start .args .out .now) (at-loop .loop .store) (at-loop .loop .line) (at-loop .loop .out) (at-loop .loop .i) (at-loop .loop .kept) (at-loop .loop .wrote) (inv .3) (omega arith) (omega arith) _ _ _ _ (c .before .before .before .before .before .before .take-byte .ensures),
+      fed-next _ (start .args .piece .now) (start .args .out .now) (at-loop .loop .store) (at-loop .loop .line) (at-loop .loop .out) (at-loop .loop .i) (at-loop .loop .kept) (at-loop .loop .wrote) (inv .3) (omega arith) _ _ _ _ some,
     )
 
 same-length : tie.Need-same-length Inv-loop μ-loop
@@ -65,7 +62,7 @@ same-length-3 c = search needs
 returns : tie.Need-returns Inv-loop μ-loop
 returns c =
     let at-loop = c .before in
-    let piece = at-loop .before .before .before .before .before .args .piece .now in
+    let piece = c .before .before .before .before .before .before .args .piece .now in
     let whole : take (at-loop .loop .i) piece ≡ piece = take-all (at-loop .loop .i) piece (omega arith) in
     rw whole at (at-loop .loop .inv .3)
 
@@ -76,9 +73,7 @@ feed-spec =
     Inv-loop
     μ-loop
     loop-holds
-    shared-slice-read-take-byte
-    take-byte-requires
-    add-i
+    take-some-requires
     loop-less
     loop-again
     same-length

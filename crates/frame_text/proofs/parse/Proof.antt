@@ -1,4 +1,5 @@
 use Rattle.frame_text.proofs.Laws.{digits-part}
+use Rattle.frame_text.proofs.Words.{call-and-stream}
 use Rattle.frame_text.specs.Digits.{allDigits}
 use Rattle.frame_text.specs.Frames.{callNumber, streamIn, argument, frameOf}
 use Rattle.little.specs.Little.{part}
@@ -28,31 +29,28 @@ returns-2 c = simp (eq-eqb _ _ (c .before .before .if1 .left), sym (c .before .a
 all-digits : (c : tie.Else2) → allDigits (c .before .before .before .before .args .line .now) ≡ true
 all-digits c = sym (c .before .all-digits .ensures) ∙ not-false _ (c .if2 .left)
 
--- every part of 44 digits can be read
-ready : (c : tie.Else2) (at k : ℕ) → at + k ≤ 44 → k ≤ 8
-    → (at + k ≤ length (c .before .before .before .before .args .line .now)) × (k ≤ 8) × T (allDigits (part at k (c .before .before .before .before .args .line .now)))
-ready c at k fits short = (omega arith, short, digits-part at k _ (of-holds _ (all-digits c)))
+-- any eight of 44 digits can be read
+ready : (c : tie.Else2) (at : ℕ) → at + 8 ≤ 44
+    → (at + 8 ≤ length (c .before .before .before .before .args .line .now)) × T (allDigits (part at 8 (c .before .before .before .before .args .line .now)))
+ready c at fits = (omega arith, digits-part at 8 _ (of-holds _ (all-digits c)))
 
-value-at-requires : tie.Need-value-at-requires
-value-at-requires c κs = ready c 0 2 (lit≤ tt) (lit≤ tt)
+word-at-requires : tie.Need-word-at-requires
+word-at-requires c κs = ready c 0 (lit≤ tt)
 
-value-at-requires-2 : tie.Need-value-at-requires-2
-value-at-requires-2 c κs = ready (c .before) 2 2 (lit≤ tt) (lit≤ tt)
+word-at-requires-2 : tie.Need-word-at-requires-2
+word-at-requires-2 c κs = ready (c .before) 4 (lit≤ tt)
 
-value-at-requires-3 : tie.Need-value-at-requires-3
-value-at-requires-3 c κs = ready (c .before .before) 4 8 (lit≤ tt) (lit≤ tt)
+word-at-requires-3 : tie.Need-word-at-requires-3
+word-at-requires-3 c κs = ready (c .before .before) 12 (lit≤ tt)
 
-value-at-requires-4 : tie.Need-value-at-requires-4
-value-at-requires-4 c κs = ready (c .before .before .before) 12 8 (lit≤ tt) (lit≤ tt)
+word-at-requires-4 : tie.Need-word-at-requires-4
+word-at-requires-4 c κs = ready (c .before .before .before) 20 (lit≤ tt)
 
-value-at-requires-5 : tie.Need-value-at-requires-5
-value-at-requires-5 c κs = ready (c .before .before .before .before) 20 8 (lit≤ tt) (lit≤ tt)
+word-at-requires-5 : tie.Need-word-at-requires-5
+word-at-requires-5 c κs = ready (c .before .before .before .before) 28 (lit≤ tt)
 
-value-at-requires-6 : tie.Need-value-at-requires-6
-value-at-requires-6 c κs = ready (c .before .before .before .before .before) 28 8 (lit≤ tt) (lit≤ tt)
-
-value-at-requires-7 : tie.Need-value-at-requires-7
-value-at-requires-7 c κs = ready (c .before .before .before .before .before .before) 36 8 (lit≤ tt) (lit≤ tt)
+word-at-requires-6 : tie.Need-word-at-requires-6
+word-at-requires-6 c κs = ready (c .before .before .before .before .before) 36 (lit≤ tt)
 
 by-number-requires : tie.Need-by-number-requires
 by-number-requires c κs = search needs
@@ -60,7 +58,9 @@ by-number-requires c κs = search needs
 returns-3 : tie.Need-returns-3
 unfolding frameOf callNumber streamIn argument
 returns-3 c =
-    let tested = c .before .before .before .before .before .before .before .before in
+    let tested = c .before .before .before .before .before .before .before in
+    let line = tested .before .before .before .before .args .line .now in
+    let head = call-and-stream line (omega arith) (of-holds _ (all-digits tested)) in
     simp (eq-eqb _ _ (tested .before .before .if1 .left), all-digits tested) (cc)
 
 pub parse-spec : {M : Type 1} → statement M
@@ -70,12 +70,11 @@ parse-spec =
     returns
     all-digits-requires
     returns-2
-    value-at-requires
-    value-at-requires-2
-    value-at-requires-3
-    value-at-requires-4
-    value-at-requires-5
-    value-at-requires-6
-    value-at-requires-7
+    word-at-requires
+    word-at-requires-2
+    word-at-requires-3
+    word-at-requires-4
+    word-at-requires-5
+    word-at-requires-6
     by-number-requires
     returns-3)

@@ -42,23 +42,23 @@ one-line at r s fits =
 put-digits-requires : tie.Need-put-digits-requires
 put-digits-requires c κs = search needs
 
-add-put-digits : tie.Need-add-put-digits
-add-put-digits c = search needs
+add-put-word : tie.Need-add-put-word
+add-put-word c = search needs
 
-put-digits-requires-2 : tie.Need-put-digits-requires-2
-put-digits-requires-2 c κs = search needs
+put-word-requires : tie.Need-put-word-requires
+put-word-requires c κs = search needs
 
-add-put-digits-2 : tie.Need-add-put-digits-2
-add-put-digits-2 c = search needs
+add-put-word-2 : tie.Need-add-put-word-2
+add-put-word-2 c = search needs
 
-put-digits-requires-3 : tie.Need-put-digits-requires-3
-put-digits-requires-3 c κs = search needs
+put-word-requires-2 : tie.Need-put-word-requires-2
+put-word-requires-2 c κs = search needs
 
-add-put-digits-3 : tie.Need-add-put-digits-3
-add-put-digits-3 c = search needs
+add-put-word-3 : tie.Need-add-put-word-3
+add-put-word-3 c = search needs
 
-put-digits-requires-4 : tie.Need-put-digits-requires-4
-put-digits-requires-4 c κs = search needs
+put-word-requires-3 : tie.Need-put-word-requires-3
+put-word-requires-3 c κs = search needs
 
 add-out : tie.Need-add-out
 add-out c = search needs
@@ -73,7 +73,7 @@ returns c =
     let second = third .before .before .before .before in
     let first = second .before .before .before .before in
     let args = first .before .before .before .args in
-    rw (fourth .put-digits4 .ensures, third .put-digits3 .ensures, second .put-digits2 .ensures, first .put-digits .ensures)
+    rw (fourth .put-word3 .ensures, third .put-word2 .ensures, second .put-word .ensures, first .put-digits .ensures)
     (one-line (args .at) (args .answer) (args .out .now) (omega (arith, first .before .before .before .pre)))
 
 same-length : tie.Need-same-length
@@ -89,12 +89,12 @@ write-answer-spec =
     tie.close
     (tie.spec
     put-digits-requires
-    add-put-digits
-    put-digits-requires-2
-    add-put-digits-2
-    put-digits-requires-3
-    add-put-digits-3
-    put-digits-requires-4
+    add-put-word
+    put-word-requires
+    add-put-word-2
+    put-word-requires-2
+    add-put-word-3
+    put-word-requires-3
     add-out
     slice-write-out
     same-length

@@ -1,0 +1,71 @@
+use Prim.Native.Nat.{_+_, _-_}
+use mathlib.Core.Path.{_≡_}
+use native.Mathlib.Omega.{arith}
+use Rattle.little.specs.Little.{part}
+use Rattle.feeding.proofs.Laws.{frame-not-taken, frame-taken}
+use borrow.Author.Needs.{needs}
+use Rattle.feeding.proofs.take_frame.Statement.{statement}
+use Rattle.feeding.proofs.take_frame.Tie as tie
+
+returns : tie.Need-returns
+returns c = frame-not-taken _ _ _ _ _ _
+
+sub-if2 : tie.Need-sub-if2
+sub-if2 c = search needs
+
+returns-2 : tie.Need-returns-2
+returns-2 c = frame-not-taken _ _ _ _ _ _
+
+add-end : tie.Need-add-end
+add-end c = search needs
+
+shared-slice-read-if3 : tie.Need-shared-slice-read-if3
+shared-slice-read-if3 c = search needs
+
+returns-3 : tie.Need-returns-3
+returns-3 c = frame-not-taken _ _ _ _ _ _
+
+sub-make-frame : tie.Need-sub-make-frame
+sub-make-frame c = search needs
+
+part-make-frame-start : tie.Need-part-make-frame-start
+part-make-frame-start c = search needs
+
+part-make-frame-end : tie.Need-part-make-frame-end
+part-make-frame-end c = search needs
+
+make-frame-requires : tie.Need-make-frame-requires
+make-frame-requires c κs = search needs
+
+same-length : tie.Need-same-length
+same-length c = search needs
+
+same-length-2 : tie.Need-same-length-2
+same-length-2 c = search needs
+
+returns-4 : tie.Need-returns-4
+unfolding part
+returns-4 c =
+    let start = c .before .before .before .before .before .before .before .before .before .before .before .before .before .before .before in
+    let i = start .args .i in
+    let width : i + 44 - i ≡ 44 = omega arith in
+    frame-taken _ _ (start .args .piece .now) i _ _ _ _ _ (c .before .before .before .before .before .before .before .before .before .before .before .if1 .left) (omega arith) (c .before .before .before .before .before .before .before .before .if3 .left)
+    (rw width at (c .before .before .before .before .make-frame .ensures))
+
+pub take-frame-spec : {M : Type 1} → statement M
+take-frame-spec =
+    tie.close
+    (tie.spec
+    returns
+    sub-if2
+    returns-2
+    add-end
+    shared-slice-read-if3
+    returns-3
+    sub-make-frame
+    part-make-frame-start
+    part-make-frame-end
+    make-frame-requires
+    same-length
+    same-length-2
+    returns-4)

@@ -1,0 +1,187 @@
+-- Numbers side by side in the fields of one word: masked, joined and parted all at once. Assumes nothing.
+use mathlib.Core.Path.{_≡_, refl, sym, ap, _∙_}
+use mathlib.Core.List.{List, [], _∷_}
+use Prim.Native.Nat.{ℕ, zero, suc, _+_, _-_, _*_, _/_, _%_, _^_, _<_}
+use native.Mathlib.Nat.{mod-lt, lt-of-lt-of-le, le-add-left}
+use native.Mathlib.Omega.{arith}
+use lib.Bits.{bitAnd, and-block, and-mask, and-zero-r}
+use lib.ListN.{length}
+use lib.Pow.{pow-pos, pow-mono, split, mod-mod-pow, ones-lt}
+
+-- ---- fields, and masks of their low bits
+
+-- items in fields of base B, the first in the lowest
+unfoldable pub fields : ℕ → List ℕ → ℕ
+fields B [] = 0
+fields B (a ∷ xs) = fields B xs * B + a
+
+-- the j low bits of each of m fields of k + j bits
+unfoldable pub lows : ℕ → ℕ → ℕ → ℕ
+lows k j zero = 0
+lows k j (suc m) = lows k j m * 2 ^ (k + j) + (2 ^ j - 1)
+
+-- what stands below R in each of m fields of base Q
+unfoldable pub picked : ℕ → ℕ → ℕ → ℕ → ℕ
+picked Q R zero y = 0
+picked Q R (suc m) y = picked Q R m (y / Q) * Q + y % R
+
+masked : (k j m y : ℕ) → bitAnd y (lows k j m) ≡ picked (2 ^ (k + j)) (2 ^ j) m y
+unfolding lows picked
+masked k j zero y = and-zero-r y
+masked k j (suc m) y =
+    let w : ℕ = k + j in
+    ap (λ (n : ℕ). bitAnd n (lows k j m * 2 ^ w + (2 ^ j - 1))) (sym (split y w))
+    ∙ and-block w (y / 2 ^ w) (lows k j m) (y % 2 ^ w) (2 ^ j - 1) (mod-lt y (pow-pos w)) (lt-of-lt-of-le (ones-lt j) (pow-mono (le-add-left j k)))
+    ∙ rw (masked k j m (y / 2 ^ w), and-mask (y % 2 ^ w) j, mod-mod-pow y k j)
+
+-- a mask by its number
+pub mask-law : {mask : ℕ} (k j m y : ℕ) → mask ≡ lows k j m → bitAnd y mask ≡ picked (2 ^ (k + j)) (2 ^ j) m y
+mask-law k j m y e = ap (bitAnd y) e ∙ masked k j m y
+
+-- each item is below P
+abbrev pub Below : ℕ → List ℕ → Type 0
+Below P [] = Unit {0}
+Below P (a ∷ xs) = (a < P) × Below P xs
+
+-- ---- neighbours joined, and items parted
+
+-- each two items, the first the higher, as one
+unfoldable pub joined : ℕ → List ℕ → List ℕ
+joined P [] = []
+joined P (a ∷ []) = []
+joined P (a ∷ b ∷ xs) = (a * P + b) ∷ joined P xs
+
+-- each item as two, the higher first
+unfoldable pub parted : ℕ → List ℕ → List ℕ
+parted P [] = []
+parted P (t ∷ ts) = t / P ∷ t % P ∷ parted P ts
+
+-- a word of items below P in fields of base B, each with its right neighbour behind it
+abbrev pub overlapped : ℕ → ℕ → ℕ → ℕ
+overlapped P B x = x * P + x / B
+
+-- what joining and parting ask of three bases, each the square of the one before: of items a, b and c below P, an item t below B, and
+-- the rest of a word
+pub record Bases (P B Q : ℕ) : Type 0 where
+  joint : (a b : ℕ) → a < P → b < P → a * P + b < B
+  first : (v c : ℕ) → c < P → (v * B + c) % B < P
+  none : 0 % B < P
+  pair : (v a b : ℕ) → a < P → b < P → overlapped P B ((v * B + b) * B + a) % B ≡ a * P + b
+  pairs : (v a b : ℕ) → a < P → b < P → v % B < P → overlapped P B ((v * B + b) * B + a) / Q ≡ overlapped P B v
+  high : (t : ℕ) → t < B → t / P < P
+  low : (t : ℕ) → t % P < P
+  upper : (x t : ℕ) → t < B → (x * Q + t) / P % P ≡ t / P
+  uppers : (x t : ℕ) → t < B → (x * Q + t) / P / Q ≡ x / P
+  lower : (x t : ℕ) → (x * Q + t) % P ≡ t % P
+  lowers : (x t : ℕ) → t < B → (x * Q + t) / Q ≡ x
+  apart : (h l w u v : ℕ) → h + l * B ≡ w → h * Q + u + (l * Q + v) * B ≡ (w * B + v) * B + u
+
+module _ {P B Q : ℕ} (bases : Bases P B Q) where
+  pub joined-below : (xs : List ℕ) → Below P xs → Below B (joined P xs)
+  unfolding joined
+  joined-below [] h = tt
+  joined-below (a ∷ []) h = tt
+  joined-below (a ∷ b ∷ xs) h = (bases .joint a b (h .0) (h .1 .0), joined-below xs (h .1 .1))
+
+  first-below : (xs : List ℕ) → Below P xs → fields B xs % B < P
+  unfolding fields
+  first-below [] h = bases .none
+  first-below (a ∷ xs) h = bases .first (fields B xs) a (h .0)
+
+  -- all neighbours are joined at once
+  join : (xs : List ℕ) → Below P xs → picked Q B (length (joined P xs)) (overlapped P B (fields B xs)) ≡ fields Q (joined P xs)
+  unfolding joined fields picked
+  join [] h = refl
+  join (a ∷ []) h = refl
+  join (a ∷ b ∷ xs) h =
+      rw (bases .pair (fields B xs) a b (h .0) (h .1 .0), bases .pairs (fields B xs) a b (h .0) (h .1 .0) (first-below xs (h .1 .1)), join xs (h .1 .1))
+
+  pub parted-below : (ts : List ℕ) → Below B ts → Below P (parted P ts)
+  unfolding parted
+  parted-below [] h = tt
+  parted-below (t ∷ ts) h = (bases .high t (h .0), (bases .low t, parted-below ts (h .1)))
+
+  -- all items are parted at once
+  part-all : (ts : List ℕ) → Below B ts
+      → picked Q P (length ts) (fields Q ts / P) + picked Q P (length ts) (fields Q ts) * B ≡ fields B (parted P ts)
+  unfolding parted fields picked
+  part-all [] h = omega arith
+  part-all (t ∷ ts) h =
+      let x : ℕ = fields Q ts in
+      rw (bases .upper x t (h .0), bases .uppers x t (h .0), bases .lower x t, bases .lowers x t (h .0))
+      (bases .apart _ _ _ _ _ (part-all ts (h .1)))
+
+-- these hold at the three sizes that a word is joined and parted at; omega asks for the numbers
+
+pub by4 : Bases 16 256 65536
+by4 =
+    record {
+      joint = λ a b ha hb. omega arith;
+      first = λ v c hc. omega arith;
+      none = omega arith;
+      pair = λ v a b ha hb. rw (next v b a ha) (omega arith);
+      pairs = λ v a b ha hb hv. rw (next v b a ha) (omega arith);
+      high = λ t h. omega arith;
+      low = λ t. omega arith;
+      upper = λ x t h. omega arith;
+      uppers = λ x t h. omega arith;
+      lower = λ x t. omega arith;
+      lowers = λ x t h. omega arith;
+      apart = λ h l w u v e. omega arith;
+    }
+  where
+    next : (v b a : ℕ) → a < 16 → ((v * 256 + b) * 256 + a) / 256 ≡ v * 256 + b
+    next v b a ha = omega arith
+
+pub by8 : Bases 256 65536 4294967296
+by8 =
+    record {
+      joint = λ a b ha hb. omega arith;
+      first = λ v c hc. omega arith;
+      none = omega arith;
+      pair = λ v a b ha hb. rw (next v b a ha) (omega arith);
+      pairs = λ v a b ha hb hv. rw (next v b a ha) (omega arith);
+      high = λ t h. omega arith;
+      low = λ t. omega arith;
+      upper = λ x t h. omega arith;
+      uppers = λ x t h. omega arith;
+      lower = λ x t. omega arith;
+      lowers = λ x t h. omega arith;
+      apart = λ h l w u v e. omega arith;
+    }
+  where
+    next : (v b a : ℕ) → a < 256 → ((v * 65536 + b) * 65536 + a) / 65536 ≡ v * 65536 + b
+    next v b a ha = omega arith
+
+pub by16 : Bases 65536 4294967296 18446744073709551616
+by16 =
+    record {
+      joint = λ a b ha hb. omega arith;
+      first = λ v c hc. omega arith;
+      none = omega arith;
+      pair = λ v a b ha hb. rw (next v b a ha) (omega arith);
+      pairs = λ v a b ha hb hv. rw (next v b a ha) (omega arith);
+      high = λ t h. omega arith;
+      low = λ t. omega arith;
+      upper = λ x t h. omega arith;
+      uppers = λ x t h. omega arith;
+      lower = λ x t. omega arith;
+      lowers = λ x t h. omega arith;
+      apart = λ h l w u v e. omega arith;
+    }
+  where
+    next : (v b a : ℕ) → a < 65536 → ((v * 4294967296 + b) * 4294967296 + a) / 4294967296 ≡ v * 4294967296 + b
+    next v b a ha = omega arith
+
+-- neighbours are joined by a mask that keeps each second field
+pub join-masked : {P mask : ℕ} (k m : ℕ) → Bases P (2 ^ k) (2 ^ (k + k)) → (xs : List ℕ) → Below P xs → length (joined P xs) ≡ m → mask ≡ lows k k m
+    → bitAnd (overlapped P (2 ^ k) (fields (2 ^ k) xs)) mask ≡ fields (2 ^ (k + k)) (joined P xs)
+join-masked {P} k m bases xs small long e =
+    mask-law k k m (overlapped P (2 ^ k) (fields (2 ^ k) xs)) e ∙ rw (← long) (join bases xs small)
+
+-- items are parted by a mask that keeps each lower half
+pub part-masked : {B mask : ℕ} (k m : ℕ) → Bases (2 ^ k) B (2 ^ (k + k + k + k)) → (ts : List ℕ) → Below B ts → length ts ≡ m → mask ≡ lows (k + k + k) k m
+    → bitAnd (fields (2 ^ (k + k + k + k)) ts / 2 ^ k) mask + bitAnd (fields (2 ^ (k + k + k + k)) ts) mask * B ≡ fields B (parted (2 ^ k) ts)
+part-masked k m bases ts small long e =
+    let x : ℕ = fields (2 ^ (k + k + k + k)) ts in
+    rw (mask-law (k + k + k) k m (x / 2 ^ k) e, mask-law (k + k + k) k m x e, ← long) (part-all bases ts small)
