@@ -1,5 +1,4 @@
-// Reading an area: its records are replayed, one after the other, over a small struct of figures by value.
-
+// Reading an area: its records are replayed by the loop of its plan, and its figures and zeros compared with what they leave.
 ghost use mathlib.Core.Path.{_≡_};
 ghost use Prim.Native.Nat.{_-_};
 ghost use lib.ListN.{length};
