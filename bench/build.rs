@@ -1,5 +1,5 @@
-// How many bytes stand before the code that is measured: where a loop lies in memory moves its time by up to twice, so bench/run
-// measures the same code at several places.
+// How many bytes stand before the code that is measured: where a loop happens to lie in memory can matter, so bench/run measures
+// the same code at several places.
 use std::env;
 
 fn main() {
