@@ -36,7 +36,7 @@ records-behind : (p : Plan) (n : ℕ) (f : Figures) (rest : List ℕ) → length
 unfolding recordsIn part planBytes figureBytes bytes
 records-behind p n f rest l = take-all (recordLength * mostRecords) rest (omega arith)
 
-module _ (area : List ℕ) (s : Standing) (es : List Entry) (at : OpenedAt area s es) (e : Entry)
+module _ (area : List ℕ) (s : Standing) (es : List Entry) (at : OpenedAt 0 area s es) (e : Entry)
     (none : firstOf (entryRefusals (s .plan) (s .figures) (s .count) e) ≡ 0) (after : List ℕ)
     (left : after ≡ written (headerLength + recordLength * s .count) (recordOf e) area) where
   accepted : firstOf (entryRefusals (s .plan) (figuresOf (s .plan) es) (length es) e) ≡ 0

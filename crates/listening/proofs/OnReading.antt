@@ -22,11 +22,11 @@ use Rattle.records.specs.Records.{LevelFits}
 use Rattle.replay.specs.declared.Standing.{Standing}
 use Rattle.replay.specs.Standing.{nothingStands, standingOf}
 
--- an area in which a stream is opened, as the reading tells it
-pub record OpenedAt (area : List ℕ) (s : Standing) (es : List Entry) : Type 0 where
+-- an area in which a stream is opened, as the reading tells it, with so many of the newest entries set apart
+pub record OpenedAt (newest : ℕ) (area : List ℕ) (s : Standing) (es : List Entry) : Type 0 where
   pub reads : reading area ≡ holds (opened (s .plan) es)
   pub counted : s .count ≡ length es
-  pub brought : s .figures ≡ figuresOf (s .plan) es
+  pub brought : s .figures ≡ figuresOf (s .plan) (drop newest es)
 
 module _ (newest : ℕ) (area : List ℕ) (s : Standing) (said : s ≡ standingOf newest (reading area)) where
   sound-of : (r : Reading) → reading area ≡ r → s .sound ≡ standingOf newest r .sound
@@ -53,11 +53,11 @@ module _ (newest : ℕ) (area : List ℕ) (s : Standing) (said : s ≡ standingO
       go (holds unopened) e = e
       go (holds (opened p es)) e = absurd (never-both (s .opened) (opened-of (holds (opened p es)) e) shut)
 
-  pub read-opened : s .opened ≡ true → (es : List Entry) × OpenedAt area s es
+  pub read-opened : s .opened ≡ true → (es : List Entry) × OpenedAt newest area s es
   unfolding standingOf nothingStands
   read-opened is = go (reading area) refl
     where
-      go : (r : Reading) → reading area ≡ r → (es : List Entry) × OpenedAt area s es
+      go : (r : Reading) → reading area ≡ r → (es : List Entry) × OpenedAt newest area s es
       go unsound e = absurd (never-both (s .opened) is (opened-of unsound e))
       go (holds unopened) e = absurd (never-both (s .opened) is (opened-of (holds unopened) e))
       go (holds (opened p es)) e =
@@ -70,13 +70,8 @@ module _ (newest : ℕ) (area : List ℕ) (s : Standing) (said : s ≡ standingO
             },
           )
 
-  -- the figures before the newest entries
-  pub read-before : (es : List Entry) → OpenedAt area s es → s .before ≡ figuresOf (s .plan) (drop newest es)
-  unfolding standingOf
-  read-before es at = ap (λ (x : Standing). x .before) (said ∙ ap (standingOf newest) (at .reads))
-
 -- what holds of the plan, the entries and the figures of such an area
-module _ (area : List ℕ) (s : Standing) (es : List Entry) (at : OpenedAt area s es) where
+module _ {newest : ℕ} (area : List ℕ) (s : Standing) (es : List Entry) (at : OpenedAt newest area s es) where
   pub read-plan : T (validPlan (s .plan))
   read-plan = plan-of (s .plan) es (area-of-reading area (opened (s .plan) es) (at .reads) .0)
 
@@ -89,8 +84,9 @@ module _ (area : List ℕ) (s : Standing) (es : List Entry) (at : OpenedAt area 
   pub read-count : s .count ≤ 128
   read-count = omega (arith, at .counted, count-within (s .plan) es read-entries)
 
-  pub read-figures : FiguresWithin (s .count) (s .figures)
-  read-figures = rw (at .counted, at .brought) (figures-within (s .plan) es read-plan read-entries)
+pub read-figures : (area : List ℕ) (s : Standing) (es : List Entry) → OpenedAt 0 area s es → FiguresWithin (s .count) (s .figures)
+read-figures area s es at =
+    rw (at .counted, at .brought) (figures-within (s .plan) es (read-plan area s es at) (read-entries area s es at))
 
 -- ---- the level figures are bytes
 
@@ -109,9 +105,9 @@ without-newest p zero es t = t
 without-newest p (suc k) [] t = t
 without-newest p (suc k) (e ∷ es) t = without-newest p k es (newest-of p e es t .others)
 
-pub before-fits : (newest : ℕ) (area : List ℕ) (s : Standing) → s ≡ standingOf newest (reading area) → (es : List Entry)
-    → OpenedAt area s es → LevelFits (s .before .level)
-before-fits newest area s said es at =
+pub figures-fit : (newest : ℕ) (area : List ℕ) (s : Standing) (es : List Entry) → OpenedAt newest area s es
+    → LevelFits (s .figures .level)
+figures-fit newest area s es at =
     let older = without-newest (s .plan) newest es (read-entries area s es at) in
-    rw (read-before newest area s said es at)
+    rw (at .brought)
     (level-fits _ _ (count-within (s .plan) (drop newest es) older) (figures-within (s .plan) (drop newest es) (read-plan area s es at) older))

@@ -105,7 +105,7 @@ module _ (area : List ℕ) (plan : Plan) (r : Answer) where
       by-call area (Open plan) r unopened after e (valid-opens plan valid) given
       (left ∙ rw (sym (area-of-reading area unopened e .1)) (opened-area plan))
 
-module _ (area : List ℕ) (s : Standing) (es : List Entry) (at : OpenedAt area s es) (r : Answer) where
+module _ (area : List ℕ) (s : Standing) (es : List Entry) (at : OpenedAt 0 area s es) (r : Answer) where
   pub open-again : (plan : Plan) → r ≡ refused 4 → leaves r area ≡ onArea area (Open plan)
   unfolding refusalOf refusals firstOf
   open-again plan given = by-refusal area (Open plan) r (opened (s .plan) es) 4 (at .reads) refl (λ z. omega arith) given
@@ -155,11 +155,12 @@ module _ (area : List ℕ) (s : Standing) (es : List Entry) (at : OpenedAt area 
   has-read given =
       by-call area Read r (opened (s .plan) es) area (at .reads) refl (rw (← at .counted, ← at .brought) given) (read-area area s es at)
 
-  -- Back
-  pub back-none : s .count ≡ 0 → r ≡ refused 16 → leaves r area ≡ onArea area Back
-  unfolding refusalOf refusals firstOf
-  back-none none given =
-      by-refusal area Back r (opened (s .plan) es) 16 (at .reads) (rw (sym (at .counted) ∙ none)) (λ z. omega arith) given
+-- Back
+pub back-none : (area : List ℕ) (s : Standing) (es : List Entry) → OpenedAt 1 area s es → (r : Answer) → s .count ≡ 0
+    → r ≡ refused 16 → leaves r area ≡ onArea area Back
+unfolding refusalOf refusals firstOf
+back-none area s es at r none given =
+    by-refusal area Back r (opened (s .plan) es) 16 (at .reads) (rw (sym (at .counted) ∙ none)) (λ z. omega arith) given
 
 kind-read : (e : Entry) → recordIn (recordOf e) .kind ≡ kindOf e
 unfolding recordIn recordOf recordBytes kindOf
@@ -178,21 +179,21 @@ newest-record p e es room =
     (records-in p (e ∷ es) (omega arith), append-assoc (recordsOf es) (recordOf e) rest, part-record e es rest)
     (kind-read e)
 
-pub back-taken : (area : List ℕ) (s : Standing) (es : List Entry) → OpenedAt area s es → s .before ≡ figuresOf (s .plan) (drop 1 es)
+pub back-taken : (area : List ℕ) (s : Standing) (es : List Entry) → OpenedAt 1 area s es
     → (last : ℕ) (taken : Record) (r : Answer) (after : List ℕ) → (s .count ≡ 0 → ⊥) → last ≡ s .count - 1
     → taken ≡ recordIn (recordAt area last)
-    → r ≡ gives (taken .kind) 0 0 → after ≡ rewritten last (zeros recordLength) last (s .before) area
+    → r ≡ gives (taken .kind) 0 0 → after ≡ rewritten last (zeros recordLength) last (s .figures) area
     → leaves r after ≡ onArea area Back
 unfolding refusalOf refusals firstOf answerOf changed newestKind withoutNewest
-back-taken area s [] at older last taken r after some ended read given left = absurd (some (at .counted))
-back-taken area s (e ∷ es) at older last taken r after some ended read given left =
+back-taken area s [] at last taken r after some ended read given left = absurd (some (at .counted))
+back-taken area s (e ∷ es) at last taken r after some ended read given left =
     let ends : last ≡ length es = omega (arith, at .counted) in
     let room : length es < 128 = omega (arith, read-count area s (e ∷ es) at, at .counted) in
     let told : taken .kind ≡ kindOf e =
     ap (λ (x : Record). x .kind) read ∙ rw (ends, read-area area s (e ∷ es) at) (newest-record (s .plan) e es room) in
     by-call area Back r (opened (s .plan) (e ∷ es)) after (at .reads) (rw (ne-eqb (suc (length es)) 0 (λ z. omega arith)))
     (given ∙ ap (λ (k : ℕ). gives k 0 0) told)
-    (left ∙ rw (ends, older, read-area area s (e ∷ es) at) (taken-area (s .plan) e es room))
+    (left ∙ rw (ends, at .brought, read-area area s (e ∷ es) at) (taken-area (s .plan) e es room))
 
 -- the flag of an accepted entry is a byte
 pub flag-fits : (p : Plan) (f : Figures) (n : ℕ) (e : Entry) → firstOf (entryRefusals p f n e) ≡ 0 → FlagFits e

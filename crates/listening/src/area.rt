@@ -96,7 +96,7 @@ fn take_back(area: &mut [u8]) -> Answer
     }
     let last = standing.count - 1;
     let taken = records::get_record(area, last);
-    clear_entry(area, last, standing.before);
+    clear_entry(area, last, standing.figures);
     answering::gives(taken.kind as u32, 0, 0)
 }
 

@@ -117,7 +117,7 @@ module _ (newest : ℕ) where
           → before ≡ figuresTo plan area (count - newest)
           → part 10 38 area ≡ zeros 6 ++ figureBytes figures
           → drop (headerLength + recordLength * count) area ≡ zeros (length area - (headerLength + recordLength * count))
-          → record { sound = true; opened = true; plan = plan; count = count; figures = figures; before = before }
+          → record { sound = true; opened = true; plan = plan; count = count; figures = before }
           ≡ standingOf newest (reading area)
       unfolding standingOf figuresTo
       says-opened before b stand older stored clear =
@@ -133,4 +133,4 @@ module _ (newest : ℕ) where
             length-entries plan (recordsIn area) count,
             ← entries-older plan (recordsIn area) count newest,
           )
-          (rw (brought, older))
+          (rw older)

@@ -24,7 +24,6 @@ nothingStands sound =
       plan = noPlan;
       count = 0;
       figures = started noPlan;
-      before = started noPlan;
     }
 
 -- what a reading says, with the figures before the newest entries, so many of them
@@ -37,8 +36,7 @@ standingOf newest (holds (opened p es)) =
       opened = true;
       plan = p;
       count = length es;
-      figures = figuresOf p es;
-      before = figuresOf p (drop newest es);
+      figures = figuresOf p (drop newest es);
     }
 
 -- an area whose header has a plan that is valid and a count that fits

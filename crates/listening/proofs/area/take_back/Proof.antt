@@ -1,4 +1,4 @@
-use Rattle.listening.proofs.OnReading.{read-unsound, read-unopened, read-opened, read-count, read-before, before-fits}
+use Rattle.listening.proofs.OnReading.{read-unsound, read-unopened, read-opened, read-count, figures-fit}
 use Rattle.listening.proofs.Outcomes.{by-unsound, by-unopened, back-none, back-taken}
 use Rattle.model.specs.Calls.{refusalOf, refusals, firstOf}
 use native.Mathlib.Omega.{arith}
@@ -69,7 +69,7 @@ clear-entry-requires c κs =
     let s = c .before .before .before .before .before .before .before .before .before .before .read .result in
     let said = c .before .before .before .before .before .before .before .before .before .before .read .ensures in
     let at = read-opened 1 area s said (not-false (s .opened) (c .before .before .before .before .before .before .if2 .left)) in
-    (c .before .before .before .before .before .before .before .before .before .before .before .before .before .pre, omega (arith, read-count area s (at .0) (at .1), c .before .before .before .before .if3 .left), before-fits 1 area s said (at .0) (at .1))
+    (c .before .before .before .before .before .before .before .before .before .before .before .before .before .pre, omega (arith, read-count area s (at .0) (at .1), c .before .before .before .before .if3 .left), figures-fit 1 area s (at .0) (at .1))
 
 cast-gives : tie.Need-cast-gives
 cast-gives c = search needs
@@ -86,7 +86,7 @@ returns-4 c =
     let s = c .before .before .before .before .before .before .before .before .before .before .before .before .before .before .before .read .result in
     let said = c .before .before .before .before .before .before .before .before .before .before .before .before .before .before .before .read .ensures in
     let at = read-opened 1 area s said (not-false (s .opened) (c .before .before .before .before .before .before .before .before .before .before .before .if2 .left)) in
-    back-taken area s (at .0) (at .1) (read-before 1 area s said (at .0) (at .1)) _ (c .before .before .before .before .before .before .get-record .result) _ _
+    back-taken area s (at .0) (at .1) _ (c .before .before .before .before .before .before .get-record .result) _ _
     (c .before .before .before .before .before .before .before .before .before .if3 .left) refl (c .before .before .before .before .before .before .get-record .ensures) (c .gives .ensures) (c .before .before .before .before .clear-entry .ensures)
 
 pub take-back-spec : {M : Type 1} → statement M
