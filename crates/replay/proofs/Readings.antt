@@ -18,10 +18,10 @@ use Rattle.model.specs.Area.{zeros, figureBytes, areaOf, planIn, countIn, entri
 use Rattle.model.proofs.AreaReading.{reading-of-area}
 use Rattle.model.proofs.Booleans.{holds-of, never-both}
 use Rattle.records.specs.Records.{Decides}
-use Rattle.records.proofs.Laws.{decided-not}
+use Rattle.records.proofs.Laws.{decided-not, refuted}
 use Rattle.replaying.specs.declared.Entered.{Entered}
 use Rattle.replaying.specs.Replaying.{recordsIn, figuresTo, standTo, Replayed}
-use Rattle.replay.specs.Standing.{nothingStands, standingOf, Headed}
+use Rattle.replay.specs.Standing.{nothingStands, standingOf, Headed, HeaderFits}
 use Rattle.replaying.proofs.Parts.{length-entries, stand-fails, parts-sound, SoundParts, sound-parts, zero-parts}
 
 -- the entries of fewer records are the older ones
@@ -33,6 +33,19 @@ entries-older p records zero (suc newest) = let none : zero - suc newest ≡ zer
 entries-older p records (suc count) (suc newest) =
     let fewer : suc count - suc newest ≡ count - newest = omega arith in
     rw fewer (entries-older p records count newest)
+
+-- a header fits where the records stand and it holds the figures after them
+pub fits-stored : (p : Plan) (area : List ℕ) (count : ℕ) (f : Figures) (same : Bool) → standTo p area count ≡ true
+    → f ≡ figuresTo p area count → Decides same (part 10 38 area ≡ zeros 6 ++ figureBytes f) → Decides same (HeaderFits p area count)
+fits-stored p area count f same stand brought test =
+    record {
+      shows = λ e. record { stand = stand; stored = rw brought at (test .shows e) };
+      shown = λ fits. test .shown (fits .stored ∙ rw brought);
+    }
+
+-- and nowhere else
+pub fits-no-failed : (p : Plan) (area : List ℕ) (count : ℕ) → standTo p area count ≡ false → Decides false (HeaderFits p area count)
+fits-no-failed p area count fails = refuted (λ fits. never-both (standTo p area count) (fits .stand) fails)
 
 module _ (newest : ℕ) where
   -- where the first byte is 0, the area is sound if all bytes are
@@ -89,48 +102,43 @@ module _ (newest : ℕ) where
         (λ p es parts.
         never-both (standTo p area (length es)) (parts .stand) (rw (same-plan p es parts, same-count p es parts) fewer))
 
-    module _ (figures : Figures) (brought : figures ≡ figuresTo plan area count) where
-      same-figures : (p : Plan) (es : List Entry) → SoundParts p es area → figuresOf p es ≡ figures
-      unfolding figuresTo
-      same-figures p es parts =
-          ap (figuresOf p) (sym (parts .entries))
-          ∙ rw (same-plan p es parts, same-count p es parts) (sym brought)
+    -- the newest records cannot stand, or the figures stored are others
+    pub says-other : (fits : Bool) → Decides fits (HeaderFits plan area count) → fits ≡ false
+        → nothingStands false ≡ standingOf newest (reading area)
+    unfolding figuresTo
+    says-other fits test fails =
+        says-unsound area (header .kind)
+        (λ p es parts.
+        decided-not test fails
+        (record {
+          stand = rw (← same-plan p es parts, ← same-count p es parts) (parts .stand);
+          stored = parts .figures ∙ rw (← same-plan p es parts, ← same-count p es parts, parts .entries);
+        }))
 
-      -- the figures stored are others
-      pub says-other : (same : Bool) → Decides same (part 10 38 area ≡ zeros 6 ++ figureBytes figures) → same ≡ false
-          → nothingStands false ≡ standingOf newest (reading area)
-      says-other same test fails =
-          says-unsound area (header .kind)
-          (λ p es parts.
-          decided-not test fails (parts .figures ∙ ap (λ (f : Figures). zeros 6 ++ figureBytes f) (same-figures p es parts)))
+    -- something stands behind the last record
+    pub says-more : (clear : Bool)
+        → Decides clear (drop (headerLength + recordLength * count) area ≡ zeros (length area - (headerLength + recordLength * count)))
+        → clear ≡ false → nothingStands false ≡ standingOf newest (reading area)
+    says-more clear test fails =
+        says-unsound area (header .kind)
+        (λ p es parts. decided-not test fails (rw (same-count p es parts) at (parts .rest)))
 
-      -- something stands behind the last record
-      pub says-more : (clear : Bool)
-          → Decides clear (drop (headerLength + recordLength * count) area ≡ zeros (length area - (headerLength + recordLength * count)))
-          → clear ≡ false → nothingStands false ≡ standingOf newest (reading area)
-      says-more clear test fails =
-          says-unsound area (header .kind)
-          (λ p es parts. decided-not test fails (rw (same-count p es parts) at (parts .rest)))
-
-      -- all of it is as calls leave it
-      pub says-opened : (before : Figures) → AreBytes area → standTo plan area count ≡ true
-          → before ≡ figuresTo plan area (count - newest)
-          → part 10 38 area ≡ zeros 6 ++ figureBytes figures
-          → drop (headerLength + recordLength * count) area ≡ zeros (length area - (headerLength + recordLength * count))
-          → record { sound = true; opened = true; plan = plan; count = count; figures = before }
-          ≡ standingOf newest (reading area)
-      unfolding standingOf figuresTo
-      says-opened before b stand older stored clear =
-          let planned = header .planned in
-          let counted = header .counted in
-          let read =
-          parts-sound area (header .whole) b (rw planned at (header .valid)) (rw counted at (header .room))
-          (rw (planned, counted) at stand) (rw (brought, planned, counted) at stored) (rw counted at clear) in
-          rw (
-            read,
-            ← planned,
-            ← counted,
-            length-entries plan (recordsIn area) count,
-            ← entries-older plan (recordsIn area) count newest,
-          )
-          (rw older)
+    -- all of it is as calls leave it
+    pub says-opened : (before : Figures) → AreBytes area → before ≡ figuresTo plan area (count - newest) → HeaderFits plan area count
+        → drop (headerLength + recordLength * count) area ≡ zeros (length area - (headerLength + recordLength * count))
+        → record { sound = true; opened = true; plan = plan; count = count; figures = before } ≡ standingOf newest (reading area)
+    unfolding standingOf figuresTo
+    says-opened before b older fits clear =
+        let planned = header .planned in
+        let counted = header .counted in
+        let read =
+        parts-sound area (header .whole) b (rw planned at (header .valid)) (rw counted at (header .room))
+        (rw (planned, counted) at (fits .stand)) (rw (planned, counted) at (fits .stored)) (rw counted at clear) in
+        rw (
+          read,
+          ← planned,
+          ← counted,
+          length-entries plan (recordsIn area) count,
+          ← entries-older plan (recordsIn area) count newest,
+        )
+        (rw older)

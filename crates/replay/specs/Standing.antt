@@ -1,7 +1,7 @@
 -- What an area says, as the code tells it. Assumes nothing.
 use Prim.Native.Nat.{ℕ, _≤_}
 use mathlib.Core.Bool.{Bool, true, false}
-use mathlib.Core.List.{List}
+use mathlib.Core.List.{List, _++_}
 use mathlib.Core.Path.{_≡_}
 use lib.Dec.{T}
 use lib.ListN.{length, drop, getD}
@@ -9,7 +9,9 @@ use Rattle.model.specs.declared.Plan.{Plan}
 use Rattle.model.specs.Sizes.{areaLength, mostRecords}
 use Rattle.model.specs.Stations.{unopened, opened, validPlan}
 use Rattle.model.specs.Figuring.{started, figuresOf}
-use Rattle.model.specs.Area.{planIn, countIn, Reading, unsound, holds}
+use Rattle.little.specs.Little.{part}
+use Rattle.model.specs.Area.{zeros, figureBytes, planIn, countIn, Reading, unsound, holds}
+use Rattle.replaying.specs.Replaying.{figuresTo, standTo}
 use Rattle.replay.specs.declared.Standing.{Standing}
 
 -- an area that is unsound or unopened has no plan and no figures to tell of
@@ -47,3 +49,8 @@ pub record Headed (area : List ℕ) (plan : Plan) (count : ℕ) : Type 0 where
   pub valid : T (validPlan plan)
   pub counted : count ≡ countIn area
   pub room : count ≤ mostRecords
+
+-- each of an area's first records stands, and its header holds zeros behind the plan and the figures after these records
+pub record HeaderFits (p : Plan) (area : List ℕ) (count : ℕ) : Type 0 where
+  pub stand : standTo p area count ≡ true
+  pub stored : part 10 38 area ≡ zeros 6 ++ figureBytes (figuresTo p area count)

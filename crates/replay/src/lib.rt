@@ -4,8 +4,9 @@ ghost use Prim.Native.Nat.{_-_};
 ghost use lib.ListN.{length};
 ghost use Rattle.model.specs.Sizes.{areaLength};
 ghost use Rattle.model.specs.Area.{reading};
+ghost use Rattle.records.specs.Records.{Decides};
 ghost use Rattle.replaying.specs.Replaying.{Ready, Replayed};
-ghost use Rattle.replay.specs.Standing.{nothingStands, standingOf, Headed};
+ghost use Rattle.replay.specs.Standing.{nothingStands, standingOf, Headed, HeaderFits};
 use model::Figures;
 use model::Plan;
 use replaying::Entered;
@@ -92,12 +93,7 @@ fn read_records(area: &[u8], plan: Plan, count: usize, newest: usize) -> Standin
         return nothing(false);
     }
     let before = older.figures;
-    let all = replay_newest(area, plan, before, first, count);
-    if !all.sound {
-        return nothing(false);
-    }
-    let figures = all.figures;
-    if !records::has_figures(area, figures) {
+    if !fits_header(area, plan, before, first, count) {
         return nothing(false);
     }
     if !records::is_zero_from(
@@ -115,20 +111,29 @@ fn read_records(area: &[u8], plan: Plan, count: usize, newest: usize) -> Standin
     }
 }
 
-// The replay of the newest records. Most calls set none apart, and are spared a second replay.
-//
-// The loops are chosen here once more, so that each has two callers: it is then compiled as a function of its own, with the registers
-// for itself. Chosen in one place, all three end up inside `read`, and a record costs up to 17 per cent more instructions.
+// Do the newest records stand, and does the header hold the figures after them? Most calls set none apart, and are spared a second
+// replay.
+fn fits_header(area: &[u8], plan: Plan, figures: Figures, from: usize, to: usize) -> bool
+    requires { ⌜ Ready plan (now area) figures from to ⌝ }
+    ensures { λ r. ⌜ Decides r (HeaderFits plan (now (area .entry)) to) ⌝ }
+{
+    if from == to {
+        return records::has_figures(area, figures);
+    }
+    let all = replay_newest(area, plan, figures, from, to);
+    if !all.sound {
+        return false;
+    }
+    records::has_figures(area, all.figures)
+}
+
+// The replay of the newest records. The loops are chosen here once more, so that each has two callers: it is then compiled as a
+// function of its own, with the registers for itself. Chosen in one place, all three end up inside `read`, and a record costs up to
+// 17 per cent more instructions.
 fn replay_newest(area: &[u8], plan: Plan, figures: Figures, from: usize, to: usize) -> Entered
     requires { ⌜ Ready plan (now area) figures from to ⌝ }
     ensures { λ r. ⌜ Replayed plan (now (area .entry)) to r ⌝ }
 {
-    if from == to {
-        return Entered {
-            sound: true,
-            figures,
-        };
-    }
     if plan.kind == plan::CREDIT {
         return replay_credit::replay(area, plan, figures, from, to);
     }

@@ -39,9 +39,8 @@ returns c =
     (omega (arith, c .before .before .before .before .before .without .ensures)) (c .before .before .before .replay .ensures)
     (not-true (c .before .before .before .replay .result .sound) (c .before .if1 .taken))
 
-replay-newest-requires : tie.Need-replay-newest-requires
-replay-newest-requires c κs =
-    let start = c .before .before .before .before .before .before .before .args in
+fits-header-requires : tie.Need-fits-header-requires
+fits-header-requires c κs =
     let header = c .before .before .before .before .before .before .before .pre in
     let older = c .before .before .before .replay in
     let sound = not-false (older .result .sound) (c .before .if1 .left) in
@@ -59,29 +58,11 @@ nothing-requires-2 c κs = search needs
 
 returns-2 : tie.Need-returns-2
 returns-2 c =
-    let start = c .before .before .before .before .before .before .before .before .before .before .before .args in
-    let header = c .before .before .before .before .before .before .before .before .before .before .before .pre in
+    let start = c .before .before .before .before .before .before .before .before .before .before .args in
+    let test = c .before .before .fits-header in
     c .nothing2 .ensures
-    ∙ says-failed (start .newest) (start .area .now) (start .plan) (start .count) header (c .before .before .before .replay-newest .result) _
-    (omega arith) (c .before .before .before .replay-newest .ensures)
-    (not-true (c .before .before .before .replay-newest .result .sound) (c .before .if2 .taken))
-
-has-figures-requires : tie.Need-has-figures-requires
-has-figures-requires c κs = search needs
-
-nothing-requires-3 : tie.Need-nothing-requires-3
-nothing-requires-3 c κs = search needs
-
-returns-3 : tie.Need-returns-3
-returns-3 c =
-    let start = c .before .before .before .before .before .before .before .before .before .before .before .before .before .before .args in
-    let header = c .before .before .before .before .before .before .before .before .before .before .before .before .before .before .pre in
-    let all = c .before .before .before .before .before .before .replay-newest in
-    let sound = not-false (all .result .sound) (c .before .before .before .before .if2 .left) in
-    let test = c .before .before .has-figures in
-    c .nothing3 .ensures
-    ∙ says-other (start .newest) (start .area .now) (start .plan) (start .count) header (all .result .figures)
-    (all .ensures .figuresAfter sound) (test .result) (test .ensures) (not-true (test .result) (c .before .if3 .taken))
+    ∙ says-other (start .newest) (start .area .now) (start .plan) (start .count) (c .before .before .before .before .before .before .before .before .before .before .pre) (test .result) (test .ensures)
+    (not-true (test .result) (c .before .if2 .taken))
 
 mul-is-zero-from : tie.Need-mul-is-zero-from
 mul-is-zero-from c = search needs
@@ -92,36 +73,29 @@ add-is-zero-from c = search needs
 is-zero-from-requires : tie.Need-is-zero-from-requires
 is-zero-from-requires c κs = search needs
 
-nothing-requires-4 : tie.Need-nothing-requires-4
-nothing-requires-4 c κs = search needs
+nothing-requires-3 : tie.Need-nothing-requires-3
+nothing-requires-3 c κs = search needs
+
+returns-3 : tie.Need-returns-3
+returns-3 c =
+    let start = c .before .before .before .before .before .before .before .before .before .before .before .before .args in
+    let test = c .before .before .is-zero-from in
+    c .nothing3 .ensures
+    ∙ says-more (start .newest) (start .area .now) (start .plan) (start .count) (c .before .before .before .before .before .before .before .before .before .before .before .before .pre) (test .result) (test .ensures)
+    (not-true (test .result) (c .before .if3 .taken))
 
 returns-4 : tie.Need-returns-4
 returns-4 c =
-    let start = c .before .before .before .before .before .before .before .before .before .before .before .before .before .before .before .before .args in
-    let header = c .before .before .before .before .before .before .before .before .before .before .before .before .before .before .before .before .pre in
-    let all = c .before .before .before .before .before .before .before .before .replay-newest in
-    let sound = not-false (all .result .sound) (c .before .before .before .before .before .before .if2 .left) in
-    let test = c .before .before .is-zero-from in
-    c .nothing4 .ensures
-    ∙ says-more (start .newest) (start .area .now) (start .plan) (start .count) header (all .result .figures)
-    (all .ensures .figuresAfter sound) (test .result) (test .ensures) (not-true (test .result) (c .before .if4 .taken))
-
-returns-5 : tie.Need-returns-5
-returns-5 c =
-    let start = c .before .before .before .before .before .before .before .before .before .before .before .before .before .before .before .args in
-    let header = c .before .before .before .before .before .before .before .before .before .before .before .before .before .before .before .pre in
-    let all = c .before .before .before .before .before .before .before .replay-newest in
-    let sound = not-false (all .result .sound) (c .before .before .before .before .before .if2 .left) in
-    let older = c .before .before .before .before .before .before .before .before .before .before .before .replay in
-    let first = c .before .before .before .before .before .before .before .before .before .before .before .before .before .without .ensures in
-    let stored = c .before .before .before .has-figures in
+    let start = c .before .before .before .before .before .before .before .before .before .before .before .args in
+    let older = c .before .before .before .before .before .before .before .replay in
+    let first = c .before .before .before .before .before .before .before .before .before .without .ensures in
+    let fits = c .before .before .before .fits-header in
     let clear = c .before .is-zero-from in
-    let bytes : AreBytes (start .area .now) = λ k. c .before .before .before .before .before .before .before .before .before .before .before .before .before .before .shared-slice-known .given k .fits in
-    says-opened (start .newest) (start .area .now) (start .plan) (start .count) header (all .result .figures)
-    (all .ensures .figuresAfter sound) (older .result .figures) bytes (sym (all .ensures .allStand) ∙ sound)
-    (rw first at (older .ensures .figuresAfter (not-false (older .result .sound) (c .before .before .before .before .before .before .before .before .before .if1 .left))))
-    (stored .ensures .shows (not-false (stored .result) (c .before .before .if3 .left)))
-    (clear .ensures .shows (not-false (clear .result) (c .if4 .left)))
+    let bytes : AreBytes (start .area .now) = λ k. c .before .before .before .before .before .before .before .before .before .before .shared-slice-known .given k .fits in
+    says-opened (start .newest) (start .area .now) (start .plan) (start .count) (c .before .before .before .before .before .before .before .before .before .before .before .pre) (older .result .figures) bytes
+    (rw first at (older .ensures .figuresAfter (not-false (older .result .sound) (c .before .before .before .before .before .if1 .left))))
+    (fits .ensures .shows (not-false (fits .result) (c .before .before .if2 .left)))
+    (clear .ensures .shows (not-false (clear .result) (c .if3 .left)))
 
 pub read-records-spec : {M : Type 1} → statement M
 read-records-spec =
@@ -132,15 +106,12 @@ read-records-spec =
     replay-requires
     nothing-requires
     returns
-    replay-newest-requires
+    fits-header-requires
     nothing-requires-2
     returns-2
-    has-figures-requires
-    nothing-requires-3
-    returns-3
     mul-is-zero-from
     add-is-zero-from
     is-zero-from-requires
-    nothing-requires-4
-    returns-4
-    returns-5)
+    nothing-requires-3
+    returns-3
+    returns-4)
