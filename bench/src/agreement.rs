@@ -2,24 +2,15 @@
 //! were damaged after them.
 
 use crate::Make;
-use reference::{area_bytes, call_on_store, figures, Caller, Entry, Frame, Random, Station, AREA, FULL, STORE};
+use outside::{at, same};
+use reference::{
+    area_bytes, call_on_store, figures, plain_frames, Caller, Entry, Random, Station, AREA, FULL, RECORD, RECORDS_FROM, STORE,
+    STREAMS,
+};
 
 // Damage is done after every so many calls of a list, so many times.
 const BETWEEN_DAMAGES: usize = 20;
 const DAMAGES: usize = 6;
-
-// Arguments for each call by its number.
-const SOME_ARGUMENTS: [[u32; 5]; 9] = [
-    [0; 5],
-    [1, 0, 15_000, 0, 0],
-    [7, 100, 40, 0, 0],
-    [3, 0, 0, 0, 0],
-    [3, 1, 0, 0, 0],
-    [1, 2, 0, 0, 0],
-    [0; 5],
-    [100, 0, 0, 0, 0],
-    [0; 5],
-];
 
 /// Makes a list of random calls, and calls on damaged copies of what it leaves.
 pub fn agrees(make: Make, seed: u64, calls: usize) -> Result<(), String> {
@@ -29,32 +20,28 @@ pub fn agrees(make: Make, seed: u64, calls: usize) -> Result<(), String> {
         let frame = caller.next_call();
         let expected = caller.make(&frame);
         caller.write_area(&mut theirs, frame.stream);
-        same(make(&mut ours, &frame) == expected && ours == theirs, seed, &frame)?;
-        if k % BETWEEN_DAMAGES == 0 && frame.stream < 16 {
-            on_damaged(make, &mut caller, &ours, frame.stream).map_err(|frame| told(seed, &frame))?;
+        let place = || format!("seed {seed}, call {k}, {frame:?}");
+        at(place, same((make(&mut ours, &frame), &ours), (expected, &theirs)))?;
+        if k % BETWEEN_DAMAGES == 0 && frame.stream < STREAMS {
+            at(place, on_damaged(make, &mut caller, &ours, frame.stream))?;
         }
     }
     for length in [0, STORE - 1, STORE + 1] {
-        let frame = Frame {
-            call: 8,
-            stream: 0,
-            args: [0; 5],
-        };
-        same(make(&mut vec![0; length], &frame) == [1, 0, 0, 0], seed, &frame)?;
+        for frame in plain_frames(0) {
+            let bytes = vec![0; length];
+            let mut store = bytes.clone();
+            let answer = make(&mut store, &frame);
+            at(
+                || format!("{length} bytes, {frame:?}"),
+                same((answer, &store), ([1, 0, 0, 0], &bytes)),
+            )?;
+        }
     }
     Ok(())
 }
 
-fn same(is_same: bool, seed: u64, frame: &Frame) -> Result<(), String> {
-    is_same.then_some(()).ok_or_else(|| told(seed, frame))
-}
-
-fn told(seed: u64, frame: &Frame) -> String {
-    format!("not as the reference: seed {seed}, {frame:?}")
-}
-
 // Damages the stream's area in some ways, and makes each of the calls there.
-fn on_damaged(make: Make, caller: &mut Caller, store: &[u8], stream: u32) -> Result<(), Frame> {
+fn on_damaged(make: Make, caller: &mut Caller, store: &[u8], stream: u32) -> Result<(), String> {
     let station = caller.station(stream).expect("a stream").clone();
     for _ in 0..DAMAGES {
         let mut area = store[stream as usize * AREA..][..AREA].to_vec();
@@ -65,19 +52,15 @@ fn on_damaged(make: Make, caller: &mut Caller, store: &[u8], stream: u32) -> Res
         }
         let mut damaged = store.to_vec();
         damaged[stream as usize * AREA..][..AREA].copy_from_slice(&area);
-        for call in 1..=8 {
-            let mut frame = caller.call_on(stream);
-            if frame.call != call {
-                frame = Frame {
-                    call,
-                    stream,
-                    args: SOME_ARGUMENTS[call as usize],
-                };
-            }
+        for plain in plain_frames(stream) {
+            let next = caller.call_on(stream);
+            let frame = if next.call == plain.call { next } else { plain };
             let (mut ours, mut theirs) = (damaged.clone(), damaged.clone());
-            if make(&mut ours, &frame) != call_on_store(&mut theirs, &frame) || ours != theirs {
-                return Err(frame);
-            }
+            let answers = (make(&mut ours, &frame), call_on_store(&mut theirs, &frame));
+            at(
+                || format!("damaged, {frame:?}"),
+                same((answers.0, &ours), (answers.1, &theirs)),
+            )?;
         }
     }
     Ok(())
@@ -87,15 +70,15 @@ fn on_damaged(make: Make, caller: &mut Caller, store: &[u8], stream: u32) -> Res
 fn add_stop(area: &mut [u8], entries: usize) {
     if entries < FULL {
         area[2] += 1;
-        area[48 + 20 * entries..][..8].copy_from_slice(&[4, 1, 0, 0, 2, 0, 0, 0]);
+        area[RECORDS_FROM + RECORD * entries..][..8].copy_from_slice(&[4, 1, 0, 0, 2, 0, 0, 0]);
     }
 }
 
 // One byte of the header, of a standing record, or of the rest.
 fn change_byte(random: &mut Random, area: &mut [u8], entries: usize) {
-    let records = 48..48 + 20 * entries;
+    let records = RECORDS_FROM..RECORDS_FROM + RECORD * entries;
     let at = match random.below(3) {
-        0 => random.below(48),
+        0 => random.below(RECORDS_FROM),
         1 if entries > 0 => records.start + random.below(records.len()),
         _ => random.below(AREA),
     };
@@ -152,6 +135,7 @@ fn forged(random: &mut Random, mut station: Station) -> Station {
 #[cfg(test)]
 mod tests {
     use super::*;
+    use reference::{Frame, LOT, OPEN, STOP};
 
     #[test]
     fn fast_calls_answer_as_the_reference() {
@@ -171,9 +155,9 @@ mod tests {
     #[test]
     fn edges_are_as_in_the_reference() {
         let calls = [
-            (1, [1, 0, 10_000, 0, 0]),
-            (2, [1, 9_900, 99, 100, 100]),
-            (5, [1 << 24 | 1, 2, 0, 0, 0]),
+            (OPEN, [1, 0, 10_000, 0, 0]),
+            (LOT, [1, 9_900, 99, 100, 100]),
+            (STOP, [1 << 24 | 1, 2, 0, 0, 0]),
         ];
         let (mut ours, mut theirs) = (vec![0; STORE], vec![0; STORE]);
         for (call, args) in calls {

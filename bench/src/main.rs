@@ -8,6 +8,7 @@ use bench::agreement::agrees;
 use bench::streams::{measured, Stream, CALLS, ENTRIES, STREAMS};
 use bench::timing::{Timed, Times};
 use bench::{fast, plain, programs, proved, Make};
+use reference::{BACK, OPEN, READ};
 use std::io;
 use std::path::Path;
 use std::process::ExitCode;
@@ -141,7 +142,7 @@ fn rows() -> Result<Vec<Row>, String> {
     for stream in STREAMS {
         for entries in ENTRIES.into_iter().filter(|entries| stream.can_have(*entries)) {
             let kept = stream.store(plain, STREAM, entries);
-            for call in 1..=8 {
+            for call in OPEN..=READ {
                 let frame = measured(call, plain, &mut kept.clone(), STREAM);
                 let timed = Timed::new(&MAKES, kept.clone(), frame)
                     .ok_or_else(|| format!("{}, {}: another answer or another store", stream.name(), CALLS[call as usize]))?;
@@ -238,7 +239,7 @@ Read, and Back in brackets, in ns. The last column is the slope of the straight 
             };
             print!("| {} | {name} |", stream.name());
             for entries in ENTRIES {
-                match (of(8, entries), of(6, entries)) {
+                match (of(READ, entries), of(BACK, entries)) {
                     (Some((_, read)), Some((_, back))) => print!(" {read:.0} ({back:.0}) |"),
                     _ => print!(" |"),
                 }
@@ -251,7 +252,7 @@ Read, and Back in brackets, in ns. The last column is the slope of the straight 
                         .collect::<Vec<_>>(),
                 )
             };
-            println!(" {:.1} ({:.1}) |", slope(8), slope(6));
+            println!(" {:.1} ({:.1}) |", slope(READ), slope(BACK));
         }
     }
 }

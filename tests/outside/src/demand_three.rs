@@ -3,8 +3,8 @@
 //! fresh store, through the library: the stream's area must be the same there, every next call must give the same, and the figures
 //! in the bytes must be those that paper 01's backward rules read off the list.
 
-use crate::compare::{at, first_difference, make, same};
 use crate::{said, Done, Setting};
+use outside::{at, first_difference, make, same};
 use reference::{
     backward_c, backward_credit, backward_phase, backward_tail, backward_window, call_of, entry_of, little, Call, Caller, Entry,
     Frame, Plan, AREA, CONTINUOUS, CREDIT, LEVEL, STORE, STREAMS,

@@ -8,7 +8,6 @@
 
 mod cases;
 mod changes;
-mod compare;
 mod damage;
 mod demand_three;
 mod frames_program;

@@ -1,20 +1,20 @@
-//! Making a call of the library, and saying where two sides differ.
+//! What the tests and the benchmark share: a call of the library by its frame, and where two sides differ.
 
-use reference::{Answer, Frame, AREA};
+use reference::{Answer, Frame, AREA, ASK, BACK, BLOCK, LOT, OPEN, READ, RUN, STOP};
 
 /// The library's call of this frame.
 pub fn make(store: &mut [u8], frame: &Frame) -> Answer {
     let stream = frame.stream;
     let [a, b, c, d, e] = frame.args;
     let answer = match frame.call {
-        1 => listening::open(store, stream, a, b, c, d),
-        2 => listening::lot(store, stream, a, b, c, d, e),
-        3 => listening::run(store, stream, a, b),
-        4 => listening::block(store, stream, a, b),
-        5 => listening::stop(store, stream, a, b),
-        6 => listening::back(store, stream),
-        7 => listening::ask(store, stream, a),
-        8 => listening::read(store, stream),
+        OPEN => listening::open(store, stream, a, b, c, d),
+        LOT => listening::lot(store, stream, a, b, c, d, e),
+        RUN => listening::run(store, stream, a, b),
+        BLOCK => listening::block(store, stream, a, b),
+        STOP => listening::stop(store, stream, a, b),
+        BACK => listening::back(store, stream),
+        ASK => listening::ask(store, stream, a),
+        READ => listening::read(store, stream),
         call => panic!("no call {call}"),
     };
     [answer.refusal, answer.first, answer.second, answer.third]
