@@ -4,8 +4,8 @@
 use crate::Make;
 use outside::{at, same};
 use reference::{
-    area_bytes, call_on_store, figures, plain_frames, Caller, Entry, Random, Station, AREA, FULL, RECORD, RECORDS_FROM, STORE,
-    STREAMS,
+    area_bytes, call_on_store, figures, header, plain_frames, record_at, Caller, Entry, Random, Station, AREA, FULL, RECORD,
+    RECORDS_FROM, STORE, STREAMS,
 };
 
 // Damage is done after every so many calls of a list, so many times.
@@ -69,17 +69,16 @@ fn on_damaged(make: Make, caller: &mut Caller, store: &[u8], stream: u32) -> Res
 // One more stop, of no effect: it can stand anywhere but on a discontinued stream.
 fn add_stop(area: &mut [u8], entries: usize) {
     if entries < FULL {
-        area[2] += 1;
-        area[RECORDS_FROM + RECORD * entries..][..8].copy_from_slice(&[4, 1, 0, 0, 2, 0, 0, 0]);
+        header::COUNT.put(area, entries as u64 + 1);
+        area[record_at(entries)][..8].copy_from_slice(&[4, 1, 0, 0, 2, 0, 0, 0]);
     }
 }
 
 // One byte of the header, of a standing record, or of the rest.
 fn change_byte(random: &mut Random, area: &mut [u8], entries: usize) {
-    let records = RECORDS_FROM..RECORDS_FROM + RECORD * entries;
     let at = match random.below(3) {
         0 => random.below(RECORDS_FROM),
-        1 if entries > 0 => records.start + random.below(records.len()),
+        1 if entries > 0 => RECORDS_FROM + random.below(RECORD * entries),
         _ => random.below(AREA),
     };
     area[at] = match random.below(3) {

@@ -2,7 +2,7 @@
 //! machine is slow for all of them.
 
 use crate::Make;
-use reference::{Answer, Frame, AREA, RECORD, RECORDS_FROM};
+use reference::{record_at, Answer, Frame, AREA, RECORD, RECORDS_FROM};
 use std::hint::black_box;
 use std::ops::Range;
 use std::time::Instant;
@@ -56,8 +56,8 @@ impl Timed {
         let changed = match (0..AREA).rfind(|at| kept[area + at] != after[area + at]) {
             None => [area..area, area..area],
             Some(last) => {
-                let record = area + RECORDS_FROM + RECORD * (last.saturating_sub(RECORDS_FROM) / RECORD);
-                [area..area + RECORDS_FROM, record..record + RECORD]
+                let record = record_at(last.saturating_sub(RECORDS_FROM) / RECORD);
+                [area..area + RECORDS_FROM, area + record.start..area + record.end]
             }
         };
         let times = vec![Times::default(); makes.len()];

@@ -6,7 +6,7 @@
 use crate::{said, Done, Setting};
 use outside::{at, first_difference, make, same};
 use reference::{
-    backward_c, backward_credit, backward_phase, backward_tail, backward_window, call_of, entry_of, little, Call, Caller, Entry,
+    backward_c, backward_credit, backward_phase, backward_tail, backward_window, call_of, entry_of, header, Call, Caller, Entry,
     Frame, Plan, AREA, CONTINUOUS, CREDIT, LEVEL, STORE, STREAMS,
 };
 
@@ -163,17 +163,14 @@ fn next_calls(caller: &mut Caller, stream: u32, mut store: Vec<u8>, mut other: V
 fn backward(plan: &Plan, entries: &[Entry], area: &[u8], tally: &mut Tally) -> Result<(), String> {
     let only = |kind, figure: &dyn Fn() -> u32| if plan.kind == kind { u64::from(figure()) } else { 0 };
     let figures = [
-        ("credit", little(area, 16, 4), only(CREDIT, &|| backward_credit(entries))),
-        ("window", little(area, 23, 1), only(LEVEL, &|| backward_window(entries))),
-        ("c", little(area, 24, 4), only(CONTINUOUS, &|| backward_c(plan, entries))),
-        (
-            "phase",
-            little(area, 28, 1),
-            only(CONTINUOUS, &|| backward_phase(plan, entries)),
-        ),
-        ("u", little(area, 30, 2), only(CONTINUOUS, &|| backward_tail(plan, entries))),
+        ("credit", header::CREDIT, only(CREDIT, &|| backward_credit(entries))),
+        ("window", header::WINDOW, only(LEVEL, &|| backward_window(entries))),
+        ("c", header::C, only(CONTINUOUS, &|| backward_c(plan, entries))),
+        ("phase", header::PHASE, only(CONTINUOUS, &|| backward_phase(plan, entries))),
+        ("u", header::U, only(CONTINUOUS, &|| backward_tail(plan, entries))),
     ];
-    for (k, (name, stored, read)) in figures.into_iter().enumerate() {
+    for (k, (name, place, read)) in figures.into_iter().enumerate() {
+        let stored = place.get(area);
         if stored != read {
             return Err(format!("{name} is {stored} in the bytes, {read} read backwards"));
         }

@@ -14,7 +14,9 @@ mod random;
 mod samples;
 mod station;
 
-pub use area::{area_bytes, call_on_store, little, read_area, AREA, RECORD, RECORDS_FROM, STORE, STREAMS};
+pub use area::{
+    area_bytes, call_on_store, header, read_area, record, record_at, Place, AREA, RECORD, RECORDS_FROM, STORE, STREAMS,
+};
 pub use arguments::{plain_frame, plain_frames};
 pub use backward::{backward_c, backward_credit, backward_phase, backward_tail, backward_window};
 pub use calls::{answer, call_of, entry_of, Answer, Call, Frame, ARGUMENTS, ASK, BACK, BLOCK, LOT, OPEN, READ, RUN, STOP};
