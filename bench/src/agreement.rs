@@ -4,8 +4,8 @@
 use crate::Make;
 use outside::{at, same};
 use reference::{
-    area_bytes, call_on_store, figures, header, plain_frames, record_at, Caller, Entry, Random, Station, AREA, FULL, RECORD,
-    RECORDS_FROM, STORE, STREAMS,
+    area_bytes, call_on_store, figures, header, plain_frames, record_at, Caller, Entry, Frame, Random, Station, AREA, CREDIT, FULL,
+    LOT, OPEN, RECORD, RECORDS_FROM, STOP, STORE, STREAMS,
 };
 
 // Damage is done after every so many calls of a list, so many times.
@@ -26,18 +26,38 @@ pub fn agrees(make: Make, seed: u64, calls: usize) -> Result<(), String> {
             at(place, on_damaged(make, &mut caller, &ours, frame.stream))?;
         }
     }
+    Ok(())
+}
+
+/// Makes calls where random ones hardly get: stores of another length; a sample without a rest, with one wrong more than it; a number
+/// whose low bytes would do.
+pub fn agrees_at_edges(make: Make) -> Result<(), String> {
     for length in [0, STORE - 1, STORE + 1] {
         for frame in plain_frames(0) {
-            let bytes = vec![0; length];
-            let mut store = bytes.clone();
-            let answer = make(&mut store, &frame);
-            at(
-                || format!("{length} bytes, {frame:?}"),
-                same((answer, &store), ([1, 0, 0, 0], &bytes)),
-            )?;
+            agrees_on(make, &mut vec![0; length], &frame)?;
         }
     }
+    let calls = [
+        (OPEN, [CREDIT, 0, 10_000, 0, 0]),
+        (LOT, [1, 9_900, 99, 100, 100]),
+        (STOP, [1 << 24 | 1, 2, 0, 0, 0]),
+    ];
+    let mut store = vec![0; STORE];
+    for (call, args) in calls {
+        agrees_on(make, &mut store, &Frame { call, stream: 3, args })?;
+    }
     Ok(())
+}
+
+// Makes the call on the store, and on a copy by the reference.
+fn agrees_on(make: Make, store: &mut [u8], frame: &Frame) -> Result<(), String> {
+    let mut theirs = store.to_vec();
+    let expected = call_on_store(&mut theirs, frame);
+    let answer = make(store, frame);
+    at(
+        || format!("{} bytes, {frame:?}", store.len()),
+        same((answer, store), (expected, &theirs)),
+    )
 }
 
 // Damages the stream's area in some ways, and makes each of the calls there.
@@ -55,12 +75,7 @@ fn on_damaged(make: Make, caller: &mut Caller, store: &[u8], stream: u32) -> Res
         for plain in plain_frames(stream) {
             let next = caller.call_on(stream);
             let frame = if next.call == plain.call { next } else { plain };
-            let (mut ours, mut theirs) = (damaged.clone(), damaged.clone());
-            let answers = (make(&mut ours, &frame), call_on_store(&mut theirs, &frame));
-            at(
-                || format!("damaged, {frame:?}"),
-                same((answers.0, &ours), (answers.1, &theirs)),
-            )?;
+            at(|| "damaged".into(), agrees_on(make, &mut damaged.clone(), &frame))?;
         }
     }
     Ok(())
@@ -129,40 +144,4 @@ fn forged(random: &mut Random, mut station: Station) -> Station {
     let end = (0..station.entries.len()).find(ended).unwrap_or(station.entries.len());
     station.entries.truncate(end);
     station
-}
-
-#[cfg(test)]
-mod tests {
-    use super::*;
-    use reference::{Frame, LOT, OPEN, STOP};
-
-    #[test]
-    fn fast_calls_answer_as_the_reference() {
-        for seed in 0..12 {
-            agrees(crate::fast, seed, 1_500).unwrap();
-        }
-    }
-
-    #[test]
-    fn proved_calls_answer_as_the_reference() {
-        for seed in 0..6 {
-            agrees(crate::proved, seed, 1_500).unwrap();
-        }
-    }
-
-    // Where random calls hardly get: a sample without a rest, with one wrong more than it; a number whose low bytes would do.
-    #[test]
-    fn edges_are_as_in_the_reference() {
-        let calls = [
-            (OPEN, [1, 0, 10_000, 0, 0]),
-            (LOT, [1, 9_900, 99, 100, 100]),
-            (STOP, [1 << 24 | 1, 2, 0, 0, 0]),
-        ];
-        let (mut ours, mut theirs) = (vec![0; STORE], vec![0; STORE]);
-        for (call, args) in calls {
-            let frame = Frame { call, stream: 3, args };
-            assert_eq!(crate::fast(&mut ours, &frame), call_on_store(&mut theirs, &frame));
-            assert_eq!(ours, theirs);
-        }
-    }
 }

@@ -4,10 +4,11 @@
 //!
 //! With LEAST naming a file, the least times of the calls are put there, and those of earlier runs that are there count too.
 
-use bench::agreement::agrees;
+use bench::agreement::{agrees, agrees_at_edges};
 use bench::streams::{measured, Stream, CALLS, ENTRIES, STREAMS};
 use bench::timing::{Timed, Times};
 use bench::{fast, plain, programs, proved, Make};
+use outside::at;
 use reference::{BACK, OPEN, READ};
 use std::io;
 use std::path::Path;
@@ -99,9 +100,11 @@ impl Row {
 }
 
 fn calls() -> Result<Target, String> {
-    for seed in 0..SEEDS {
-        agrees(proved, seed, RANDOM_CALLS).map_err(|how| format!("ours: {how}"))?;
-        agrees(fast, seed, RANDOM_CALLS).map_err(|how| format!("(b): {how}"))?;
+    for (name, make) in [("ours", proved as Make), ("(b)", fast)] {
+        at(|| name.into(), agrees_at_edges(make))?;
+        for seed in 0..SEEDS {
+            at(|| name.into(), agrees(make, seed, RANDOM_CALLS))?;
+        }
     }
     let mut rows = rows()?;
     for _ in 0..PASSES {
