@@ -176,9 +176,8 @@ Time of one call in ns, warm: the same store again and again, its area in the ca
 (a): the independent implementation. (b): safe Rust written for speed. (c): the floor, one pass that adds up the area's 2,608 bytes
 in words of eight. {PASSES} passes over all rows; in each, {ROUNDS} rounds of {CALLS_A_ROUND} calls of ours, (b), (a) (one call),
 (b) again and (c), with the code at each of four places in memory. The best round counts, and ± is how far the median at the last
-place lies above it. After a call that changes the store, the
-header and the record are put back from a copy; that alone is measured too, and taken off all times. Refusal 7: such a plan has no
-such call; 9: no place is free.
+place lies above it. After a call that changes the store, the header and the record are put back from a copy; that alone is measured
+too, and taken off all times. Refusal 7: such a plan has no such call; 9: no place is free.
 
 Ours and (b) gave the answers and left the bytes of (a), here, and before on {SEEDS} random lists of {RANDOM_CALLS} calls and on
 damaged areas. Checksum of the answers below, the same for all three: {:016x}. Noise, (b) against itself: {:.1} %.

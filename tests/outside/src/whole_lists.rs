@@ -109,9 +109,12 @@ fn malformed(caller: &mut Caller, store: &mut [u8], expected: &[u8], tally: &mut
     if listening::list(store, &calls, &mut answers) {
         return Err(format!("room for {answers_length} numbers, malformed, but made: {calls:?}"));
     }
-    if answers != kept || store != expected {
+    if answers != kept {
+        return Err(format!("malformed, but an answer was written: {calls:?}"));
+    }
+    if store != expected {
         return Err(format!(
-            "malformed, but something was written: {calls:?}; {}",
+            "malformed, but the store was written: {calls:?}; {}",
             first_difference(store, expected)
         ));
     }
