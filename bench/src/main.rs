@@ -4,10 +4,10 @@
 //!
 //! With LEAST naming a file, the least times of the calls are put there, and those of earlier runs that are there count too.
 
-use bench::agreement::{agrees, agrees_at_edges};
 use bench::streams::{measured, Stream, CALLS, ENTRIES, STREAMS};
 use bench::timing::{Timed, Times};
 use bench::{fast, plain, programs, proved, Make};
+use outside::agreement::{agrees, agrees_at_edges, Compared};
 use outside::at;
 use reference::{BACK, OPEN, READ};
 use std::io;
@@ -101,9 +101,10 @@ impl Row {
 
 fn calls() -> Result<Target, String> {
     for (name, make) in [("ours", proved as Make), ("(b)", fast)] {
-        at(|| name.into(), agrees_at_edges(make))?;
+        let compared = &mut Compared::default();
+        at(|| name.into(), agrees_at_edges(make, compared))?;
         for seed in 0..SEEDS {
-            at(|| name.into(), agrees(make, seed, RANDOM_CALLS))?;
+            at(|| name.into(), agrees(make, seed, RANDOM_CALLS, compared))?;
         }
     }
     let mut rows = rows()?;

@@ -1,7 +1,7 @@
 //! The streams that calls are measured on: of each kind of plan, with so many standing entries.
 
 use crate::Make;
-use reference::{header, plain_frame, Frame, Random, AREA, ARGUMENTS, ASK, BLOCK, LOT, OPEN, READ, RUN, STOP, STORE};
+use reference::{area_at, header, plain_frame, Frame, Random, ARGUMENTS, ASK, BLOCK, LOT, OPEN, READ, RUN, STOP, STORE};
 use Stream::*;
 
 #[derive(Clone, Copy, Debug, PartialEq, Eq)]
@@ -90,7 +90,7 @@ impl Stream {
             CreditMixed | LevelMixed => {
                 let mut lot = good_lot(random, make, store, stream, label);
                 // Not too often on tightened, so that the stream is not discontinued.
-                let judged_on_tightened = header::TIGHTENED.get(&store[stream as usize * AREA..]);
+                let judged_on_tightened = header::TIGHTENED.get(&store[area_at(stream)]);
                 if judged_on_tightened < 5 && random.chance(1, 4) {
                     let wrong = random.range(1, lot[2].min(3));
                     lot[3..].fill(wrong);

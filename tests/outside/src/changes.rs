@@ -1,6 +1,6 @@
 //! What an area's bytes are, and ways to change them.
 
-use reference::{header, record, record_at, Place, Random, AREA, FULL, RECORD, RECORDS_FROM, STREAMS};
+use reference::{area_at, header, record, record_at, Place, Random, AREA, FULL, RECORD, RECORDS_FROM, STREAMS};
 
 /// Parts of which one byte may be changed so that some other list of calls could have left the area.
 pub const SOUND_BY_ONE_BYTE: [&str; 9] = [
@@ -97,8 +97,8 @@ fn change_all(random: &mut Random, area: &mut [u8], store: &[u8]) -> &'static st
             "one byte"
         }
         _ => {
-            let stream = random.below(STREAMS as usize);
-            area.copy_from_slice(&store[stream * AREA..][..AREA]);
+            let stream = random.range(0, STREAMS - 1);
+            area.copy_from_slice(&store[area_at(stream)]);
             ANOTHER_AREA
         }
     }

@@ -6,8 +6,8 @@
 use crate::{said, Done, Setting};
 use outside::{at, first_difference, make, same};
 use reference::{
-    backward_c, backward_credit, backward_phase, backward_tail, backward_window, call_of, entry_of, header, Call, Caller, Entry,
-    Frame, Plan, AREA, CONTINUOUS, CREDIT, LEVEL, STORE, STREAMS,
+    area_at, backward_c, backward_credit, backward_phase, backward_tail, backward_window, call_of, entry_of, header, Call, Caller,
+    Entry, Frame, Plan, CONTINUOUS, CREDIT, LEVEL, STORE, STREAMS,
 };
 
 const LISTS: u64 = 40;
@@ -113,8 +113,7 @@ fn one_list(seed: u64, tally: &mut Tally) -> Result<(), String> {
 
 fn check(caller: &mut Caller, store: &[u8], stream: u32, standing: &Standing, tally: &mut Tally) -> Result<(), String> {
     let other = replay(standing)?;
-    let from = stream as usize * AREA;
-    let area = from..from + AREA;
+    let area = area_at(stream);
     let mut alone = vec![0; STORE];
     alone[area.clone()].copy_from_slice(&store[area.clone()]);
     if other != alone {
@@ -145,7 +144,7 @@ fn replay(standing: &Standing) -> Result<Vec<u8>, String> {
 
 /// Whichever call on this stream follows gives the same on both stores, and leaves the same area.
 fn next_calls(caller: &mut Caller, stream: u32, mut store: Vec<u8>, mut other: Vec<u8>) -> Result<(), String> {
-    let area = stream as usize * AREA..(stream as usize + 1) * AREA;
+    let area = area_at(stream);
     for _ in 0..NEXT {
         let next = caller.call_on(stream);
         let long_lived = make(&mut store, &next);

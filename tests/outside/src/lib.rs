@@ -1,10 +1,16 @@
-//! What the tests and the benchmark share: a call of the library by its frame, and where two sides differ.
+//! What the tests and the benchmark share: a call of the library by its frame, where two sides differ, and whether an implementation
+//! agrees with the reference.
+
+pub mod agreement;
 
 use reference::{Answer, Frame, AREA, ARGUMENTS, ASK, BACK, BLOCK, LOT, OPEN, READ, RUN, STOP, STORE, STREAMS};
 
 // The wrapper's sizes are paper 01's.
 const _: () = assert!(listening::STORE_LENGTH == STORE && listening::STREAMS == STREAMS);
 const _: () = assert!(listening::CALL_LENGTH == 2 + ARGUMENTS && listening::ANSWER_LENGTH == 4);
+
+/// Makes a call on a store.
+pub type Make = fn(&mut [u8], &Frame) -> Answer;
 
 /// The library's call of this frame.
 pub fn make(store: &mut [u8], frame: &Frame) -> Answer {

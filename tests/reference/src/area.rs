@@ -71,7 +71,13 @@ impl Place {
     }
 }
 
-/// The bytes of a record, by its place among the records.
+/// The bytes of a stream's area in the store.
+pub fn area_at(stream: u32) -> Range<usize> {
+    let from = stream as usize * AREA;
+    from..from + AREA
+}
+
+/// The bytes of a record in its area, by its place among the records.
 pub fn record_at(k: usize) -> Range<usize> {
     let from = RECORDS_FROM + RECORD * k;
     from..from + RECORD
@@ -180,7 +186,7 @@ pub fn call_on_store(store: &mut [u8], frame: &Frame) -> Answer {
     if frame.stream >= STREAMS {
         return [2, 0, 0, 0];
     }
-    let area = &mut store[frame.stream as usize * AREA..][..AREA];
+    let area = &mut store[area_at(frame.stream)];
     let Some(mut station) = read_area(area) else {
         return [3, 0, 0, 0];
     };

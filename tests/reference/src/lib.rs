@@ -15,7 +15,7 @@ mod samples;
 mod station;
 
 pub use area::{
-    area_bytes, call_on_store, header, read_area, record, record_at, Place, AREA, RECORD, RECORDS_FROM, STORE, STREAMS,
+    area_at, area_bytes, call_on_store, header, read_area, record, record_at, Place, AREA, RECORD, RECORDS_FROM, STORE, STREAMS,
 };
 pub use arguments::{plain_frame, plain_frames};
 pub use backward::{backward_c, backward_credit, backward_phase, backward_tail, backward_window};

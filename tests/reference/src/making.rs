@@ -2,7 +2,7 @@
 //! often it takes back, stops, or errs. It knows the stations by the reference, so that it can ask for the sample a lot needs, end
 //! a screening just at its clearance number, or withhold just the lots that bring a stream to discontinued as it gets full.
 
-use crate::area::{area_bytes, AREA, STREAMS};
+use crate::area::{area_at, area_bytes, STREAMS};
 use crate::arguments::{
     any_plan_args, asked_size, bad_plan_args, block_args, lot_args, lot_size, plain_frame, plan_args, run_args, stop_args, Args,
     Mood,
@@ -65,7 +65,7 @@ impl Caller {
     /// Writes the stream's area, as the reference has it, into a store.
     pub fn write_area(&self, store: &mut [u8], stream: u32) {
         if let Some(station) = self.station(stream) {
-            store[stream as usize * AREA..][..AREA].copy_from_slice(&area_bytes(station));
+            store[area_at(stream)].copy_from_slice(&area_bytes(station));
         }
     }
 

@@ -1,19 +1,27 @@
-//! Whether an implementation answers as the reference does and leaves the same bytes: on random lists of calls, and on areas that
-//! were damaged after them.
+//! Whether an implementation answers as the reference does and leaves the same bytes: on random lists of calls, on areas that were
+//! damaged after them, some with figures that fit the damage, and at edges. The library is tested so, and each implementation before
+//! it is measured.
 
-use crate::Make;
-use outside::{at, same};
+use crate::{at, same, Make};
 use reference::{
-    area_bytes, call_on_store, figures, header, plain_frames, record_at, Caller, Entry, Frame, Random, Station, AREA, CREDIT, FULL,
-    LOT, OPEN, RECORD, RECORDS_FROM, STOP, STORE, STREAMS,
+    area_at, area_bytes, call_on_store, figures, header, plain_frames, read_area, record_at, Caller, Entry, Frame, Random, Station,
+    AREA, CREDIT, FULL, LOT, OPEN, RECORD, RECORDS_FROM, STOP, STORE, STREAMS,
 };
 
 // Damage is done after every so many calls of a list, so many times.
 const BETWEEN_DAMAGES: usize = 20;
 const DAMAGES: usize = 6;
 
+/// So many calls were compared; so many damaged areas were sound still, and unsound.
+#[derive(Default)]
+pub struct Compared {
+    pub calls: usize,
+    pub sound: usize,
+    pub unsound: usize,
+}
+
 /// Makes a list of random calls, and calls on damaged copies of what it leaves.
-pub fn agrees(make: Make, seed: u64, calls: usize) -> Result<(), String> {
+pub fn agrees(make: Make, seed: u64, calls: usize, compared: &mut Compared) -> Result<(), String> {
     let mut caller = Caller::new(seed, calls, u32::MAX);
     let (mut ours, mut theirs) = (vec![0; STORE], vec![0; STORE]);
     for k in 0..calls {
@@ -22,8 +30,9 @@ pub fn agrees(make: Make, seed: u64, calls: usize) -> Result<(), String> {
         caller.write_area(&mut theirs, frame.stream);
         let place = || format!("seed {seed}, call {k}, {frame:?}");
         at(place, same((make(&mut ours, &frame), &ours), (expected, &theirs)))?;
+        compared.calls += 1;
         if k % BETWEEN_DAMAGES == 0 && frame.stream < STREAMS {
-            at(place, on_damaged(make, &mut caller, &ours, frame.stream))?;
+            at(place, on_damaged(make, &mut caller, &ours, frame.stream, compared))?;
         }
     }
     Ok(())
@@ -31,10 +40,10 @@ pub fn agrees(make: Make, seed: u64, calls: usize) -> Result<(), String> {
 
 /// Makes calls where random ones hardly get: stores of another length; a sample without a rest, with one wrong more than it; a number
 /// whose low bytes would do.
-pub fn agrees_at_edges(make: Make) -> Result<(), String> {
+pub fn agrees_at_edges(make: Make, compared: &mut Compared) -> Result<(), String> {
     for length in [0, STORE - 1, STORE + 1] {
         for frame in plain_frames(0) {
-            agrees_on(make, &mut vec![0; length], &frame)?;
+            agrees_on(make, &mut vec![0; length], &frame, compared)?;
         }
     }
     let calls = [
@@ -44,16 +53,17 @@ pub fn agrees_at_edges(make: Make) -> Result<(), String> {
     ];
     let mut store = vec![0; STORE];
     for (call, args) in calls {
-        agrees_on(make, &mut store, &Frame { call, stream: 3, args })?;
+        agrees_on(make, &mut store, &Frame { call, stream: 3, args }, compared)?;
     }
     Ok(())
 }
 
 // Makes the call on the store, and on a copy by the reference.
-fn agrees_on(make: Make, store: &mut [u8], frame: &Frame) -> Result<(), String> {
+fn agrees_on(make: Make, store: &mut [u8], frame: &Frame, compared: &mut Compared) -> Result<(), String> {
     let mut theirs = store.to_vec();
     let expected = call_on_store(&mut theirs, frame);
     let answer = make(store, frame);
+    compared.calls += 1;
     at(
         || format!("{} bytes, {frame:?}", store.len()),
         same((answer, store), (expected, &theirs)),
@@ -61,21 +71,25 @@ fn agrees_on(make: Make, store: &mut [u8], frame: &Frame) -> Result<(), String> 
 }
 
 // Damages the stream's area in some ways, and makes each of the calls there.
-fn on_damaged(make: Make, caller: &mut Caller, store: &[u8], stream: u32) -> Result<(), String> {
+fn on_damaged(make: Make, caller: &mut Caller, store: &[u8], stream: u32, compared: &mut Compared) -> Result<(), String> {
     let station = caller.station(stream).expect("a stream").clone();
     for _ in 0..DAMAGES {
-        let mut area = store[stream as usize * AREA..][..AREA].to_vec();
+        let mut area = store[area_at(stream)].to_vec();
         match caller.random.below(6) {
             0 => add_stop(&mut area, station.entries.len()),
             1 | 2 => change_byte(&mut caller.random, &mut area, station.entries.len()),
             _ => area = area_bytes(&forged(&mut caller.random, station.clone())),
         }
+        match read_area(&area) {
+            Some(_) => compared.sound += 1,
+            None => compared.unsound += 1,
+        }
         let mut damaged = store.to_vec();
-        damaged[stream as usize * AREA..][..AREA].copy_from_slice(&area);
+        damaged[area_at(stream)].copy_from_slice(&area);
         for plain in plain_frames(stream) {
             let next = caller.call_on(stream);
             let frame = if next.call == plain.call { next } else { plain };
-            at(|| "damaged".into(), agrees_on(make, &mut damaged.clone(), &frame))?;
+            at(|| "damaged".into(), agrees_on(make, &mut damaged.clone(), &frame, compared))?;
         }
     }
     Ok(())
