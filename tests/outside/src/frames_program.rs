@@ -1,7 +1,7 @@
 //! The program `frames` on random text, good frames and anything else, written to its standard input in pieces cut anywhere.
 
 use crate::{said, Done, Setting};
-use outside::{at, first_difference};
+use outside::at;
 use reference::{frame, frames_output, line, plain_frame, Caller, Random, OPEN};
 use std::io::{Read, Write};
 use std::process::{Command, Stdio};
@@ -159,11 +159,7 @@ fn same_lines(ours: &[u8], theirs: &[u8]) -> Result<(), String> {
     let same = ours.iter().zip(theirs).take_while(|(a, b)| a == b);
     let at = same.filter(|(byte, _)| **byte == b'\n').count();
     let (is, expected) = (line_of(ours, at), line_of(theirs, at));
-    Err(format!(
-        "line {} is '{is}', expected '{expected}'; {}",
-        at + 1,
-        first_difference(ours, theirs)
-    ))
+    Err(format!("line {} is '{is}', expected '{expected}'", at + 1))
 }
 
 fn run_in_pieces(input: &[u8], random: &mut Random) -> io::Result<Vec<u8>> {

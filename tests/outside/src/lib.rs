@@ -43,7 +43,7 @@ pub fn same(ours: (Answer, &[u8]), theirs: (Answer, &[u8])) -> Result<(), String
     ))
 }
 
-/// Where two byte strings differ first, in words.
+/// Where two stores differ first, in words.
 pub fn first_difference(ours: &[u8], theirs: &[u8]) -> String {
     match ours.iter().zip(theirs).position(|(a, b)| a != b) {
         Some(at) => {
