@@ -1,13 +1,36 @@
 /*
- * The listening controller: sixteen streams in one store of bytes.
+ * The listening controller: sixteen streams in one store of bytes. For x86-64; `rt staticlib listening_c` writes the archive.
  *
- * The store is 41,728 bytes, all zero when fresh, kept by the caller; the library keeps nothing. Each call takes the store's address
- * and length, the stream (0 to 15) and its own arguments, and gives back a refusal number, 0 for none, and three numbers, 0 where it
- * has no such number. A refused call leaves every byte of the store as it was. A store of another length is refused (1), a stream
- * above 15 too (2), and so is an area that no calls could have left (3): nothing here crashes on a bad number.
+ * The store is 41,728 bytes, all zero when fresh, and is the caller's. Each call takes the store's address and length, the
+ * stream (0 to 15) and its own arguments, and gives back a refusal number, 0 for none, and three numbers, 0 where it names
+ * none. A refused call gives three zeros and leaves every byte of the store as it was. Whatever the numbers and the store's
+ * bytes are, a call ends and gives an answer; it allocates and prints nothing.
  *
- * The one duty of the caller is C's own: a pointer and its length must be those of memory that is the caller's, an empty part included
- * (no null pointer), and nothing else may write it during the call.
+ * The duties of the caller are C's own:
+ * - A pointer and its length are those of memory that is the caller's. No pointer is null, also where the length is 0. The
+ *   store may lie at any address; calls and answers of listening_list are aligned as uint32_t is.
+ * - The store, the calls and the answers of one listening_list do not overlap.
+ * - While a call runs that may write (all but listening_ask and listening_read), nothing else reads or writes that store,
+ *   another stream of it included; while an ask or a read runs, nothing writes it. Calls on different stores may run at the
+ *   same time: the library has no state of its own, takes no lock, and keeps no pointer when a call has ended.
+ *
+ * Refusals. The first that applies is given: 1, 2, 3, 6 (not for open), then the call's own, in the order that its comment has.
+ *    1 store_length is not 41,728; the store is not looked at
+ *    2 the stream is above 15
+ *    3 no calls could have left these bytes in the stream's area; other streams still answer
+ *    4 opened already
+ *    5 no such plan: kind, option, a or b out of range
+ *    6 not opened
+ *    7 a call of another kind of plan
+ *    8 discontinued
+ *    9 128 records stand
+ *   10 the label is that of the newest standing lot
+ *   11 size out of range: 1 to 1,000,000, on a level stream 2 to 1,000,000
+ *   12 sample is not the one that listening_ask gives
+ *   13 wrong and wrong_in_all cannot be
+ *   14 a run in sampling or past the clearance number, a block in screening
+ *   15 a number out of range
+ *   16 nothing to take back
  */
 #ifndef LISTENING_H
 #define LISTENING_H
@@ -28,44 +51,63 @@ extern "C" {
 #define LISTENING_ANSWER_LENGTH 4
 
 typedef struct {
-    uint32_t refusal;
+    uint32_t refusal; /* 0: accepted, whatever the verdict */
     uint32_t first;
     uint32_t second;
     uint32_t third;
 } listening_answer;
 
-/* Opens a stream. Kind 1 credit (a: limit in millionths), 2 level (a: VL), 3 continuous (a: clearance number, b: interval). */
+/*
+ * Opens a stream, once. Kind 1 credit: a is the limit in millionths, 1 to 500,000; option 1: a lot with a wrong one is heard
+ * whole also with credit. Kind 2 level: a is VL, 1 to 7; option 1 permits reduced. Kind 3 continuous: a is the clearance
+ * number, 1 to 10,000, and b the interval, 2 to 200. What is not named is 0. Refusals 4, 5.
+ */
 listening_answer listening_open(uint8_t *store, size_t store_length, uint32_t stream, uint32_t kind, uint32_t option, uint32_t a,
                                 uint32_t b);
 
-/* Enters a lot. Gives the verdict (1 accepted, 2 all heard, 3 returned or withheld), what is accepted, and the credit or level. */
+/*
+ * Enters a lot of so many detections (size, N), of which a sample (n) was heard, wrong (d) of them wrong, and wrong_in_all (D)
+ * in all that was heard. Gives the verdict (1 accepted, 2 all heard, 3 returned or withheld), what is accepted, and the credit,
+ * or the level (0 reduced, 1 normal, 2 tightened, 3 discontinued), after it. Refusals 7, 8, 9, 10, 11, 12, 13.
+ */
 listening_answer listening_lot(uint8_t *store, size_t store_length, uint32_t stream, uint32_t label, uint32_t size, uint32_t sample,
                                uint32_t wrong, uint32_t wrong_in_all);
 
-/* Enters a run in screening: right detections, then a wrong one where wrong is 1. Gives what is accepted, and the phase. */
+/*
+ * Enters a run in screening: right detections, at most 10,000, then a wrong one where wrong is 1. Gives what is accepted, and
+ * the phase (0 screening, 1 sampling) after it. Refusals 7, 9, 15, 14.
+ */
 listening_answer listening_run(uint8_t *store, size_t store_length, uint32_t stream, uint32_t right, uint32_t wrong);
 
-/* Enters a block in sampling, of which the detection at place heard was heard. Gives what is accepted, what to hear back, the phase. */
+/*
+ * Enters a block in sampling, of which the detection at place heard (p, 1 to the interval) was heard and was wrong where wrong
+ * is 1. Gives what is accepted, how many to hear back, and the phase after it. Refusals 7, 9, 15, 14.
+ */
 listening_answer listening_block(uint8_t *store, size_t store_length, uint32_t stream, uint32_t heard, uint32_t wrong);
 
-/* Enters a stop. Why 1: a pause of so many days. Why 2: the set-up was changed, and days is 0. */
+/* Enters a stop. Why 1: a pause of so many days, at most 255. Why 2: the set-up was changed, and days is 0. Refusals 8, 9, 15. */
 listening_answer listening_stop(uint8_t *store, size_t store_length, uint32_t stream, uint32_t why, uint32_t days);
 
-/* Takes the newest entry back. Gives its kind: 1 lot, 2 run, 3 block, 4 stop. */
+/* Takes the newest entry back. Gives its kind: 1 lot, 2 run, 3 block, 4 stop. Refusal 16. */
 listening_answer listening_back(uint8_t *store, size_t store_length, uint32_t stream);
 
-/* Gives the sample that a lot of this size asks for. */
+/* Gives the sample that a lot of this size asks for. Refusals 7, 8, 11. */
 listening_answer listening_ask(const uint8_t *store, size_t store_length, uint32_t stream, uint32_t size);
 
-/* Gives the count of standing entries, what is accepted in all, and the credit, level or screening count, in
- * sampling 65,536 and what has passed since the last detection heard. */
+/*
+ * Gives the count of standing entries, what is accepted in all, and the credit, the level or the screening count; in sampling
+ * 65,536 plus what has passed since the last detection heard.
+ */
 listening_answer listening_read(const uint8_t *store, size_t store_length, uint32_t stream);
 
 /*
- * Makes a list of calls, one after the other. Each is seven numbers: its number (1 open, 2 lot, 3 run, 4 block, 5 stop, 6 back, 7 ask,
- * 8 read), the stream, and five arguments, those that it has not being 0. Each answer is four numbers, the refusal first. Where a call
- * does not exist, or the room for answers is not exactly that of the calls, nothing is made and the result is false. A store of another
- * length is no such case: the list is made, and each call refused by 1. Both lengths are counts of numbers.
+ * Makes a list of calls, one after the other. Each is seven numbers: its number (1 open, 2 lot, 3 run, 4 block, 5 stop, 6 back,
+ * 7 ask, 8 read), the stream, and five arguments in the order above, those that it has not being 0. Each answer is four
+ * numbers, the refusal first. Both lengths are counts of numbers, not of calls or bytes.
+ *
+ * False, and nothing made or written, where calls_length is not a multiple of 7, a call has another number or an argument that
+ * it has not, or answers_length is not exactly 4 for each call. A refused call is no such case, nor is a store of another
+ * length: the list is made, and its answers hold the refusals.
  */
 bool listening_list(uint8_t *store, size_t store_length, const uint32_t *calls, size_t calls_length, uint32_t *answers,
                     size_t answers_length);

@@ -53,9 +53,7 @@ pub fn open(store: &mut [u8], stream: u32, kind: u32, option: u32, a: u32, b: u3
             3 if Continuous::is_valid(&plan) => Continuous::start(&plan).words(&plan),
             _ => return Err(5),
         };
-        put_u32(area, 0, kind | option << 8);
-        put_u32(area, 4, a);
-        put_u32(area, 8, b);
+        put_plan(area, kind, &plan);
         put_figures(area, figures);
         Ok([0; 3])
     })())
@@ -69,7 +67,6 @@ pub fn lot(store: &mut [u8], stream: u32, label: u32, size: u32, sample: u32, wr
         match reading(area)? {
             Reading::Credit(standing) => {
                 let Standing { plan, count, figures } = &standing;
-                let mut after = *figures;
                 free_place(*count)?;
                 labelled_anew(figures.newest, label)?;
                 sized(1, size)?;
@@ -77,10 +74,7 @@ pub fn lot(store: &mut [u8], stream: u32, label: u32, size: u32, sample: u32, wr
                     return Err(12);
                 }
                 // The rest is what a replay asks of a lot: its sample is the one asked, and its counts agree with it.
-                if !after.enter(plan, &record) {
-                    return Err(13);
-                }
-                enter(area, *count, &record, after.words(plan));
+                let after = enter(area, &standing, &record, 13)?;
                 Ok([
                     Credit::verdict(figures.credit, plan, wrong),
                     (after.accepted - figures.accepted) as u32,
@@ -89,7 +83,6 @@ pub fn lot(store: &mut [u8], stream: u32, label: u32, size: u32, sample: u32, wr
             }
             Reading::Level(standing) => {
                 let Standing { plan, count, figures } = &standing;
-                let mut after = *figures;
                 figures.goes_on()?;
                 free_place(*count)?;
                 labelled_anew(figures.newest, label)?;
@@ -97,10 +90,7 @@ pub fn lot(store: &mut [u8], stream: u32, label: u32, size: u32, sample: u32, wr
                 if sample != level_sample(plan.a, figures.level, size) {
                     return Err(12);
                 }
-                if !after.enter(plan, &record) {
-                    return Err(13);
-                }
-                enter(area, *count, &record, after.words(plan));
+                let after = enter(area, &standing, &record, 13)?;
                 let (verdict, accepted) = if wrong == 0 { (1, size) } else { (3, 0) };
                 Ok([verdict, accepted, after.level])
             }
@@ -113,20 +103,12 @@ pub fn lot(store: &mut [u8], stream: u32, label: u32, size: u32, sample: u32, wr
 pub fn run(store: &mut [u8], stream: u32, right: u32, wrong: u32) -> Answer {
     answer((|| {
         let area = area_of(store, stream)?;
-        let Reading::Continuous(standing) = reading(area)? else {
-            return Err(7);
-        };
-        let Standing { plan, count, figures } = &standing;
-        free_place(*count)?;
+        let standing = continuous(area)?;
         if right > 10_000 || wrong > 1 || (right | wrong) == 0 {
             return Err(15);
         }
-        let mut after = *figures;
         let record = record_of(RUN | wrong << 8, right, 0, 0, 0);
-        if !after.enter(plan, &record) {
-            return Err(14);
-        }
-        enter(area, *count, &record, after.words(plan));
+        let after = enter(area, &standing, &record, 14)?;
         Ok([right, after.phase(), 0])
     })())
 }
@@ -135,36 +117,27 @@ pub fn run(store: &mut [u8], stream: u32, right: u32, wrong: u32) -> Answer {
 pub fn block(store: &mut [u8], stream: u32, heard: u32, wrong: u32) -> Answer {
     answer((|| {
         let area = area_of(store, stream)?;
-        let Reading::Continuous(standing) = reading(area)? else {
-            return Err(7);
-        };
-        let Standing { plan, count, figures } = &standing;
-        free_place(*count)?;
-        if heard == 0 || heard > plan.b || wrong > 1 {
+        let standing = continuous(area)?;
+        if heard == 0 || heard > standing.plan.b || wrong > 1 {
             return Err(15);
         }
-        let mut after = *figures;
         let record = record_of(BLOCK | wrong << 8, heard, 0, 0, 0);
-        if !after.enter(plan, &record) {
-            return Err(14);
-        }
-        enter(area, *count, &record, after.words(plan));
-        let hear_back = if wrong == 1 { figures.tail + heard - 1 } else { 0 };
-        Ok([(after.accepted - figures.accepted) as u32, hear_back, after.phase()])
+        let after = enter(area, &standing, &record, 14)?;
+        let before = &standing.figures;
+        let hear_back = if wrong == 1 { before.tail + heard - 1 } else { 0 };
+        Ok([(after.accepted - before.accepted) as u32, hear_back, after.phase()])
     })())
 }
 
 #[inline(never)]
 pub fn stop(store: &mut [u8], stream: u32, why: u32, days: u32) -> Answer {
     fn enter_stop<F: Figures>(area: &mut Area, standing: &Standing<F>, why: u32, days: u32) -> Given {
-        let Standing { plan, count, figures } = standing;
-        free_place(*count)?;
-        let mut after = *figures;
-        let record = record_of(4 | why << 8, days, 0, 0, 0);
-        if why > 2 || !after.enter(plan, &record) {
+        free_place(standing.count)?;
+        // So that the flag is one byte; the rest is what a replay asks of a stop.
+        if why > 2 {
             return Err(15);
         }
-        enter(area, *count, &record, after.words(plan));
+        enter(area, standing, &record_of(STOP | why << 8, days, 0, 0, 0), 15)?;
         Ok([0; 3])
     }
     answer((|| {
@@ -268,6 +241,30 @@ fn area_at(store: &[u8], stream: u32) -> Result<&Area, u32> {
         return Err(1);
     }
     store.as_chunks().0.get(stream as usize).ok_or(2)
+}
+
+// What stands on a continuous stream with a place free: runs and blocks are entered there alone.
+#[inline(always)]
+fn continuous(area: &Area) -> Result<Standing<Continuous>, u32> {
+    let Reading::Continuous(standing) = reading(area)? else {
+        return Err(7);
+    };
+    free_place(standing.count)?;
+    Ok(standing)
+}
+
+// Enters the record after those that stand, and gives the figures after it; where it cannot stand there, the refusal.
+#[inline(always)]
+fn enter<F: Figures>(area: &mut Area, standing: &Standing<F>, record: &Record, refusal: u32) -> Result<F, u32> {
+    let Standing { plan, count, figures } = standing;
+    let mut after = *figures;
+    if !after.enter(plan, record) {
+        return Err(refusal);
+    }
+    put_record(area, *count, record);
+    put_count(area, *count + 1);
+    put_figures(area, after.words(plan));
+    Ok(after)
 }
 
 fn free_place(count: usize) -> Result<(), u32> {

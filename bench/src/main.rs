@@ -4,10 +4,12 @@
 //!
 //! With LEAST naming a file, the least times of the calls are put there, and those of earlier runs that are there count too.
 
-use bench::agreement::agrees;
 use bench::streams::{measured, Stream, CALLS, ENTRIES, STREAMS};
 use bench::timing::{Timed, Times};
 use bench::{fast, plain, programs, proved, Make};
+use outside::agreement::{agrees, agrees_at_edges, Compared};
+use outside::at;
+use reference::{BACK, OPEN, READ};
 use std::io;
 use std::path::Path;
 use std::process::ExitCode;
@@ -98,9 +100,12 @@ impl Row {
 }
 
 fn calls() -> Result<Target, String> {
-    for seed in 0..SEEDS {
-        agrees(proved, seed, RANDOM_CALLS).map_err(|how| format!("ours: {how}"))?;
-        agrees(fast, seed, RANDOM_CALLS).map_err(|how| format!("(b): {how}"))?;
+    for (name, make) in [("ours", proved as Make), ("(b)", fast)] {
+        let compared = &mut Compared::default();
+        at(|| name.into(), agrees_at_edges(make, compared))?;
+        for seed in 0..SEEDS {
+            at(|| name.into(), agrees(make, seed, RANDOM_CALLS, compared))?;
+        }
     }
     let mut rows = rows()?;
     for _ in 0..PASSES {
@@ -141,7 +146,7 @@ fn rows() -> Result<Vec<Row>, String> {
     for stream in STREAMS {
         for entries in ENTRIES.into_iter().filter(|entries| stream.can_have(*entries)) {
             let kept = stream.store(plain, STREAM, entries);
-            for call in 1..=8 {
+            for call in OPEN..=READ {
                 let frame = measured(call, plain, &mut kept.clone(), STREAM);
                 let timed = Timed::new(&MAKES, kept.clone(), frame)
                     .ok_or_else(|| format!("{}, {}: another answer or another store", stream.name(), CALLS[call as usize]))?;
@@ -172,9 +177,8 @@ Time of one call in ns, warm: the same store again and again, its area in the ca
 (a): the independent implementation. (b): safe Rust written for speed. (c): the floor, one pass that adds up the area's 2,608 bytes
 in words of eight. {PASSES} passes over all rows; in each, {ROUNDS} rounds of {CALLS_A_ROUND} calls of ours, (b), (a) (one call),
 (b) again and (c), with the code at each of four places in memory. The best round counts, and ± is how far the median at the last
-place lies above it. After a call that changes the store, the
-header and the record are put back from a copy; that alone is measured too, and taken off all times. Refusal 7: such a plan has no
-such call; 9: no place is free.
+place lies above it. After a call that changes the store, the header and the record are put back from a copy; that alone is measured
+too, and taken off all times. Refusal 7: such a plan has no such call; 9: no place is free.
 
 Ours and (b) gave the answers and left the bytes of (a), here, and before on {SEEDS} random lists of {RANDOM_CALLS} calls and on
 damaged areas. Checksum of the answers below, the same for all three: {:016x}. Noise, (b) against itself: {:.1} %.
@@ -238,7 +242,7 @@ Read, and Back in brackets, in ns. The last column is the slope of the straight 
             };
             print!("| {} | {name} |", stream.name());
             for entries in ENTRIES {
-                match (of(8, entries), of(6, entries)) {
+                match (of(READ, entries), of(BACK, entries)) {
                     (Some((_, read)), Some((_, back))) => print!(" {read:.0} ({back:.0}) |"),
                     _ => print!(" |"),
                 }
@@ -251,7 +255,7 @@ Read, and Back in brackets, in ns. The last column is the slope of the straight 
                         .collect::<Vec<_>>(),
                 )
             };
-            println!(" {:.1} ({:.1}) |", slope(8), slope(6));
+            println!(" {:.1} ({:.1}) |", slope(READ), slope(BACK));
         }
     }
 }

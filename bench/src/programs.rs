@@ -1,6 +1,6 @@
 //! The programs over standard input and output: a file of frames, their time on it, and the most memory that they had.
 
-use reference::{Caller, Frame};
+use reference::{line, Caller};
 use std::fs::{self, File};
 use std::io::{BufWriter, Result, Write};
 use std::path::Path;
@@ -16,12 +16,7 @@ pub fn write_frames(file: &Path, frames: usize) -> Result<usize> {
     for _ in 0..frames {
         let frame = caller.next_call();
         accepted += usize::from(caller.make(&frame)[0] == 0);
-        let Frame {
-            call,
-            stream,
-            args: [a, b, c, d, e],
-        } = frame;
-        writeln!(output, "{call:02x}{stream:02x}{a:08x}{b:08x}{c:08x}{d:08x}{e:08x}")?;
+        writeln!(output, "{}", line(&frame))?;
     }
     output.flush()?;
     Ok(accepted)

@@ -1,7 +1,7 @@
 //! The streams that calls are measured on: of each kind of plan, with so many standing entries.
 
 use crate::Make;
-use reference::{Frame, Random, AREA, STORE};
+use reference::{area_at, header, plain_frame, Frame, Random, ARGUMENTS, ASK, BLOCK, LOT, OPEN, READ, RUN, STOP, STORE};
 use Stream::*;
 
 #[derive(Clone, Copy, Debug, PartialEq, Eq)]
@@ -67,15 +67,12 @@ impl Stream {
             Screening | Sampling | Both => [3, 0, CLEARANCE, INTERVAL, 0],
         };
         let mut random = Random::new(self as u64);
-        let opened = make(
-            &mut store,
-            &Frame {
-                call: 1,
-                stream,
-                args: plan,
-            },
-        );
-        assert_eq!(opened[0], 0, "{self:?}");
+        let open = Frame {
+            call: OPEN,
+            stream,
+            args: plan,
+        };
+        assert_eq!(make(&mut store, &open)[0], 0, "{self:?}");
         for label in 0..entries {
             let (call, args) = self.entry(&mut random, make, &mut store, stream, label as u32);
             let entered = make(&mut store, &Frame { call, stream, args });
@@ -84,34 +81,27 @@ impl Stream {
         store
     }
 
-    fn entry(self, random: &mut Random, make: Make, store: &mut [u8], stream: u32, label: u32) -> (u32, [u32; 5]) {
-        let [_, _, _, figure] = make(
-            store,
-            &Frame {
-                call: 8,
-                stream,
-                args: [0; 5],
-            },
-        );
-        let block = |random: &mut Random, w: bool| (4, [random.range(1, INTERVAL), w.into(), 0, 0, 0]);
+    fn entry(self, random: &mut Random, make: Make, store: &mut [u8], stream: u32, label: u32) -> (u32, [u32; ARGUMENTS]) {
+        let [_, _, _, figure] = make(store, &plain_frame(READ, stream));
+        let block = |random: &mut Random, w: bool| (BLOCK, [random.range(1, INTERVAL), w.into(), 0, 0, 0]);
         match self {
             Unopened => unreachable!("nothing is entered"),
-            CreditGood | LevelGood => (2, good_lot(random, make, store, stream, label)),
+            CreditGood | LevelGood => (LOT, good_lot(random, make, store, stream, label)),
             CreditMixed | LevelMixed => {
                 let mut lot = good_lot(random, make, store, stream, label);
                 // Not too often on tightened, so that the stream is not discontinued.
-                let judged_on_tightened = store[stream as usize * AREA + 22];
+                let judged_on_tightened = header::TIGHTENED.get(&store[area_at(stream)]);
                 if judged_on_tightened < 5 && random.chance(1, 4) {
                     let wrong = random.range(1, lot[2].min(3));
                     lot[3..].fill(wrong);
                 }
-                (2, lot)
+                (LOT, lot)
             }
             Screening => {
                 let most = CLEARANCE - figure - 1;
                 let right = random.range(0, most.min(40));
                 (
-                    3,
+                    RUN,
                     [right, (right == 0 || right == most || random.chance(1, 4)).into(), 0, 0, 0],
                 )
             }
@@ -119,35 +109,32 @@ impl Stream {
                 let wrong = self == Both && random.chance(1, 8);
                 block(random, wrong)
             }
-            Sampling => (3, [CLEARANCE, 0, 0, 0, 0]),
-            Both => (3, [random.range(1, CLEARANCE - figure), 0, 0, 0, 0]),
+            Sampling => (RUN, [CLEARANCE, 0, 0, 0, 0]),
+            Both => (RUN, [random.range(1, CLEARANCE - figure), 0, 0, 0, 0]),
         }
     }
 }
 
 /// The call that is measured: one that the stream takes, where it takes such a call at all and has a place free.
 pub fn measured(call: u32, make: Make, store: &mut [u8], stream: u32) -> Frame {
+    let plain = plain_frame(call, stream);
     let args = match call {
-        1 => [1, 0, 15_000, 0, 0],
-        2 => good_lot(&mut Random::new(0), make, store, stream, 1_000),
-        3 => [1, 0, 0, 0, 0],
-        4 => [10, 0, 0, 0, 0],
-        5 => [1, 2, 0, 0, 0],
-        7 => [800, 0, 0, 0, 0],
-        _ => [0; 5],
+        LOT => good_lot(&mut Random::new(0), make, store, stream, 1_000),
+        BLOCK => [10, 0, 0, 0, 0],
+        STOP => [1, 2, 0, 0, 0],
+        ASK => [800, 0, 0, 0, 0],
+        _ => plain.args,
     };
-    Frame { call, stream, args }
+    Frame { args, ..plain }
 }
 
-fn good_lot(random: &mut Random, make: Make, store: &mut [u8], stream: u32, label: u32) -> [u32; 5] {
+fn good_lot(random: &mut Random, make: Make, store: &mut [u8], stream: u32, label: u32) -> [u32; ARGUMENTS] {
     let size = random.range(100, 4_000);
-    let [_, sample, _, _] = make(
-        store,
-        &Frame {
-            call: 7,
-            stream,
-            args: [size, 0, 0, 0, 0],
-        },
-    );
+    let ask = Frame {
+        call: ASK,
+        stream,
+        args: [size, 0, 0, 0, 0],
+    };
+    let [_, sample, _, _] = make(store, &ask);
     [label, size, sample, 0, 0]
 }

@@ -2,7 +2,7 @@
 //! machine is slow for all of them.
 
 use crate::Make;
-use reference::{Answer, Frame, AREA, RECORD, RECORDS_FROM};
+use reference::{area_at, record_at, Answer, Frame, AREA, RECORD, RECORDS_FROM};
 use std::hint::black_box;
 use std::ops::Range;
 use std::time::Instant;
@@ -52,12 +52,12 @@ impl Timed {
             let mut store = kept.clone();
             make(&mut store, &frame) == answer && store == after
         });
-        let area = frame.stream as usize * AREA;
+        let area = area_at(frame.stream).start;
         let changed = match (0..AREA).rfind(|at| kept[area + at] != after[area + at]) {
             None => [area..area, area..area],
             Some(last) => {
-                let record = area + RECORDS_FROM + RECORD * (last.saturating_sub(RECORDS_FROM) / RECORD);
-                [area..area + RECORDS_FROM, record..record + RECORD]
+                let record = record_at(last.saturating_sub(RECORDS_FROM) / RECORD);
+                [area..area + RECORDS_FROM, area + record.start..area + record.end]
             }
         };
         let times = vec![Times::default(); makes.len()];
@@ -103,7 +103,7 @@ impl Timed {
     }
 
     fn time_floor(&self, calls: usize, store: &[u8]) -> f64 {
-        let area = store[self.frame.stream as usize * AREA..].first_chunk().expect("an area");
+        let area = store[area_at(self.frame.stream)].first_chunk().expect("an area");
         let start = Instant::now();
         for _ in 0..calls {
             black_box(sum(black_box(area)));

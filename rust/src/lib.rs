@@ -1,7 +1,8 @@
 //! The listening controller: sixteen streams in one store of bytes, for Rust.
 //!
-//! Each function is the proved call of the same name. A store is 41,728 bytes, all zero when fresh. Bad input of any kind, a store of
-//! another length included, gets a refusal number and leaves the store as it was: no call panics, and none has a duty for its caller.
+//! Each function is the proved call of the same name; `include/listening.h` says of each what it takes and gives and how it is
+//! refused. A store is 41,728 bytes, all zero when fresh. Bad input of any kind, a store of another length included, gets a refusal
+//! number and leaves the store as it was: no call panics, and none has a duty for its caller.
 
 #![warn(missing_docs)]
 
@@ -33,10 +34,10 @@ mod c {
     use super::Answer;
 
     extern "C" {
-        pub fn listening_open(s: *mut u8, n: usize, stream: u32, kind: u32, option: u32, a: u32, b: u32) -> Answer;
+        pub fn listening_open(store: *mut u8, length: usize, stream: u32, kind: u32, option: u32, a: u32, b: u32) -> Answer;
         pub fn listening_lot(
-            s: *mut u8,
-            n: usize,
+            store: *mut u8,
+            length: usize,
             stream: u32,
             label: u32,
             size: u32,
@@ -44,15 +45,15 @@ mod c {
             wrong: u32,
             wrong_in_all: u32,
         ) -> Answer;
-        pub fn listening_run(s: *mut u8, n: usize, stream: u32, right: u32, wrong: u32) -> Answer;
-        pub fn listening_block(s: *mut u8, n: usize, stream: u32, heard: u32, wrong: u32) -> Answer;
-        pub fn listening_stop(s: *mut u8, n: usize, stream: u32, why: u32, days: u32) -> Answer;
-        pub fn listening_back(s: *mut u8, n: usize, stream: u32) -> Answer;
-        pub fn listening_ask(s: *const u8, n: usize, stream: u32, size: u32) -> Answer;
-        pub fn listening_read(s: *const u8, n: usize, stream: u32) -> Answer;
+        pub fn listening_run(store: *mut u8, length: usize, stream: u32, right: u32, wrong: u32) -> Answer;
+        pub fn listening_block(store: *mut u8, length: usize, stream: u32, heard: u32, wrong: u32) -> Answer;
+        pub fn listening_stop(store: *mut u8, length: usize, stream: u32, why: u32, days: u32) -> Answer;
+        pub fn listening_back(store: *mut u8, length: usize, stream: u32) -> Answer;
+        pub fn listening_ask(store: *const u8, length: usize, stream: u32, size: u32) -> Answer;
+        pub fn listening_read(store: *const u8, length: usize, stream: u32) -> Answer;
         pub fn listening_list(
-            s: *mut u8,
-            n: usize,
+            store: *mut u8,
+            length: usize,
             calls: *const u32,
             calls_length: usize,
             answers: *mut u32,
@@ -65,11 +66,13 @@ mod c {
 // that the wrapper borrows for as long as the call runs, mutably where the call may write.
 
 /// Opens a stream: kind 1 credit (`a`: limit in millionths), 2 level (`a`: VL), 3 continuous (`a`: clearance number, `b`: interval).
+/// Option 1: a credit lot with a wrong one is heard whole also with credit; a level stream may go to reduced.
 pub fn open(store: &mut [u8], stream: u32, kind: u32, option: u32, a: u32, b: u32) -> Answer {
     unsafe { c::listening_open(store.as_mut_ptr(), store.len(), stream, kind, option, a, b) }
 }
 
-/// Enters a lot. Gives the verdict (1 accepted, 2 all heard, 3 returned or withheld), what is accepted, and the credit or level.
+/// Enters a lot (`size` N, `sample` n, `wrong` d, `wrong_in_all` D). Gives the verdict (1 accepted, 2 all heard, 3 returned or
+/// withheld), what is accepted, and the credit or the level (0 reduced, 1 normal, 2 tightened, 3 discontinued).
 pub fn lot(store: &mut [u8], stream: u32, label: u32, size: u32, sample: u32, wrong: u32, wrong_in_all: u32) -> Answer {
     unsafe {
         c::listening_lot(
@@ -85,12 +88,14 @@ pub fn lot(store: &mut [u8], stream: u32, label: u32, size: u32, sample: u32, wr
     }
 }
 
-/// Enters a run in screening. Gives what is accepted, and the phase.
+/// Enters a run in screening: `right` detections, then a wrong one where `wrong` is 1. Gives what is accepted, and the phase (0
+/// screening, 1 sampling).
 pub fn run(store: &mut [u8], stream: u32, right: u32, wrong: u32) -> Answer {
     unsafe { c::listening_run(store.as_mut_ptr(), store.len(), stream, right, wrong) }
 }
 
-/// Enters a block in sampling. Gives what is accepted, what to hear back, and the phase.
+/// Enters a block in sampling, of which the detection at place `heard` was heard. Gives what is accepted, how many to hear back, and
+/// the phase.
 pub fn block(store: &mut [u8], stream: u32, heard: u32, wrong: u32) -> Answer {
     unsafe { c::listening_block(store.as_mut_ptr(), store.len(), stream, heard, wrong) }
 }
@@ -100,7 +105,7 @@ pub fn stop(store: &mut [u8], stream: u32, why: u32, days: u32) -> Answer {
     unsafe { c::listening_stop(store.as_mut_ptr(), store.len(), stream, why, days) }
 }
 
-/// Takes the newest entry back. Gives its kind.
+/// Takes the newest entry back. Gives its kind: 1 lot, 2 run, 3 block, 4 stop.
 pub fn back(store: &mut [u8], stream: u32) -> Answer {
     unsafe { c::listening_back(store.as_mut_ptr(), store.len(), stream) }
 }
@@ -110,23 +115,24 @@ pub fn ask(store: &[u8], stream: u32, size: u32) -> Answer {
     unsafe { c::listening_ask(store.as_ptr(), store.len(), stream, size) }
 }
 
-/// Gives the count of standing entries, what is accepted in all, and the figure of the plan.
+/// Gives the count of standing entries, what is accepted in all, and the credit, the level or the screening count; in sampling 65,536
+/// plus what has passed since the last detection heard.
 pub fn read(store: &[u8], stream: u32) -> Answer {
     unsafe { c::listening_read(store.as_ptr(), store.len(), stream) }
 }
 
-/// Makes a list of calls, seven numbers each, and writes the answers, four numbers each. False, and nothing made, where a call does
-/// not exist or the room for answers is not exactly that of the calls.
+/// Makes a list of calls, seven numbers each, and writes the answers, four numbers each. False, and nothing made or written, where the
+/// numbers are not whole calls, a call does not exist or has an argument too many, or the room for answers is not exactly that of the
+/// calls. A refused call is no such case.
 pub fn list(store: &mut [u8], calls: &[u32], answers: &mut [u32]) -> bool {
-    let (calls_length, answers_length) = (calls.len(), answers.len());
     unsafe {
         c::listening_list(
             store.as_mut_ptr(),
             store.len(),
             calls.as_ptr(),
-            calls_length,
+            calls.len(),
             answers.as_mut_ptr(),
-            answers_length,
+            answers.len(),
         )
     }
 }

@@ -220,13 +220,13 @@ static void damaged_byte(void)
 /* A list of four calls on stream 0, where one lot of 201 stands, and the same with an argument that Read does not have. */
 static void lists(void)
 {
-    uint32_t calls[] = {
+    uint32_t calls[4 * LISTENING_CALL_LENGTH] = {
         7, 0, 192, 0, 0, 0, 0,      /* asks for 28, as above */
         2, 0, 2, 192, 28, 0, 0,     /* accepted: credit 393 */
         2, 0, 2, 192, 28, 0, 0,     /* the label again */
         8, 0, 0, 0, 0, 0, 0,
     };
-    const uint32_t expected[] = {
+    const uint32_t expected[4 * LISTENING_ANSWER_LENGTH] = {
         0, 28, 0, 0,
         0, 1, 192, 393,
         10, 0, 0, 0,

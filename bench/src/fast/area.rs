@@ -17,11 +17,12 @@ pub type Record = [u8; RECORD_LENGTH];
 // A record's first four bytes: kind, flag, two zeros.
 pub const LOT: u32 = 1;
 pub const RUN: u32 = 2;
-pub const RUN_WRONG: u32 = 2 | 1 << 8;
+pub const RUN_WRONG: u32 = RUN | 1 << 8;
 pub const BLOCK: u32 = 3;
-pub const BLOCK_WRONG: u32 = 3 | 1 << 8;
-pub const PAUSE: u32 = 4 | 1 << 8;
-pub const CHANGE: u32 = 4 | 2 << 8;
+pub const BLOCK_WRONG: u32 = BLOCK | 1 << 8;
+pub const STOP: u32 = 4;
+pub const PAUSE: u32 = STOP | 1 << 8;
+pub const CHANGE: u32 = STOP | 2 << 8;
 
 pub const MOST_SIZE: u32 = 1_000_000;
 pub const LONGEST_PAUSE: u32 = 255;
@@ -158,10 +159,10 @@ pub fn record_of(head: u32, a: u32, b: u32, c: u32, d: u32) -> Record {
     record
 }
 
-pub fn enter(area: &mut Area, count: usize, record: &Record, figures: [u64; 3]) {
-    put_record(area, count, record);
-    put_count(area, count + 1);
-    put_figures(area, figures);
+pub fn put_plan(area: &mut Area, kind: u32, plan: &Plan) {
+    put_u32(area, 0, kind | plan.option << 8);
+    put_u32(area, 4, plan.a);
+    put_u32(area, 8, plan.b);
 }
 
 pub fn put_record(area: &mut Area, i: usize, record: &Record) {
@@ -178,7 +179,7 @@ pub fn put_figures(area: &mut Area, figures: [u64; 3]) {
     }
 }
 
-pub fn put_u32(area: &mut Area, at: usize, number: u32) {
+fn put_u32(area: &mut Area, at: usize, number: u32) {
     area[at..at + 4].copy_from_slice(&number.to_le_bytes());
 }
 

@@ -1,34 +1,34 @@
 //! The papers' own numbers, typed in from them. Where paper 01's tables differ from document 000's Tables 1 and 2, the document
 //! decides; so two of paper 01's proved cases have the document's number.
 
-use reference::{Answer, Frame};
+use reference::{Answer, Frame, ARGUMENTS, ASK, BLOCK, LOT, OPEN, RUN, STOP};
 
 /// Calls on stream 0 of a fresh store, each with its answer.
 pub type Case = (&'static str, &'static [(Frame, Answer)]);
 
-const fn call(call: u32, args: [u32; 5]) -> Frame {
+const fn call(call: u32, args: [u32; ARGUMENTS]) -> Frame {
     Frame { call, stream: 0, args }
 }
 pub const fn open(kind: u32, option: u32, a: u32, b: u32) -> Frame {
-    call(1, [kind, option, a, b, 0])
+    call(OPEN, [kind, option, a, b, 0])
 }
 pub const fn lot(label: u32, size: u32, n: u32, d: u32, all: u32) -> Frame {
-    call(2, [label, size, n, d, all])
+    call(LOT, [label, size, n, d, all])
 }
 const fn run(h: u32, w: u32) -> Frame {
-    call(3, [h, w, 0, 0, 0])
+    call(RUN, [h, w, 0, 0, 0])
 }
 const fn block(p: u32, w: u32) -> Frame {
-    call(4, [p, w, 0, 0, 0])
+    call(BLOCK, [p, w, 0, 0, 0])
 }
 const fn stop(why: u32, days: u32) -> Frame {
-    call(5, [why, days, 0, 0, 0])
+    call(STOP, [why, days, 0, 0, 0])
 }
 pub const fn ask(size: u32) -> Frame {
-    call(7, [size, 0, 0, 0, 0])
+    call(ASK, [size, 0, 0, 0, 0])
 }
-const BACK: Frame = call(6, [0; 5]);
-const READ: Frame = call(8, [0; 5]);
+const BACK: Frame = call(reference::BACK, [0; ARGUMENTS]);
+const READ: Frame = call(reference::READ, [0; ARGUMENTS]);
 pub const DONE: Answer = [0; 4];
 
 pub const CASES: [Case; 16] = [

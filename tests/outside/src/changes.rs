@@ -1,6 +1,6 @@
 //! What an area's bytes are, and ways to change them.
 
-use reference::{little, Random, AREA, FULL, RECORD, RECORDS_FROM, STREAMS};
+use reference::{area_at, header, record, record_at, Place, Random, AREA, FULL, RECORD, RECORDS_FROM, STREAMS};
 
 /// Parts of which one byte may be changed so that some other list of calls could have left the area.
 pub const SOUND_BY_ONE_BYTE: [&str; 9] = [
@@ -15,48 +15,47 @@ pub const SOUND_BY_ONE_BYTE: [&str; 9] = [
     "stop: days",
 ];
 
+const HEADER: [(&str, Place); 14] = [
+    ("plan kind", header::KIND),
+    ("option", header::OPTION),
+    ("count", header::COUNT),
+    ("A", header::A),
+    ("B", header::B),
+    ("credit", header::CREDIT),
+    ("level", header::LEVEL),
+    ("row", header::ROW),
+    ("lots on tightened", header::TIGHTENED),
+    ("window", header::WINDOW),
+    ("c", header::C),
+    ("phase", header::PHASE),
+    ("u", header::U),
+    ("accepted", header::ACCEPTED),
+];
+
 /// What a byte of this area is.
 pub fn part(area: &[u8], byte: usize) -> &'static str {
-    match byte {
-        0 => "plan kind",
-        1 => "option",
-        2..=3 => "count",
-        4..=7 => "A",
-        8..=9 => "B",
-        16..=19 => "credit",
-        20 => "level",
-        21 => "row",
-        22 => "lots on tightened",
-        23 => "window",
-        24..=27 => "c",
-        28 => "phase",
-        30..=31 => "u",
-        32..=39 => "accepted",
-        10..=15 | 29 | 40..=47 => "unused",
-        _ => {
-            let record = &area[byte - (byte - RECORDS_FROM) % RECORD..][..RECORD];
-            record_part(record[0], (byte - RECORDS_FROM) % RECORD)
-        }
+    if byte >= RECORDS_FROM {
+        let (k, byte) = ((byte - RECORDS_FROM) / RECORD, (byte - RECORDS_FROM) % RECORD);
+        return record_part(&area[record_at(k)], byte);
     }
+    let part = HEADER.into_iter().find(|(_, place)| place.contains(byte));
+    part.map_or("unused", |(name, _)| name)
 }
 
-fn record_part(kind: u8, byte: usize) -> &'static str {
-    match (kind, byte) {
-        (0, _) => "after the last record",
-        (_, 0) => "record kind",
-        (_, 2..=3) => "zero bytes of a record",
-        (1, 1) => "lot: flag",
-        (1, 4..=7) => "lot: label",
-        (1, 8..=11) => "lot: N",
-        (1, 12..=15) => "lot: d",
-        (1, _) => "lot: D",
-        (_, 8..) => "unused numbers of a record",
-        (2, 1) => "run: w",
-        (2, _) => "run: h",
-        (3, 1) => "block: w",
-        (3, _) => "block: p",
-        (_, 1) => "stop: why",
-        _ => "stop: days",
+fn record_part(bytes: &[u8], byte: usize) -> &'static str {
+    const UNUSED: &str = "unused numbers of a record";
+    let (flag, numbers) = match record::KIND.get(bytes) {
+        0 => return "after the last record",
+        1 => ("lot: flag", ["lot: label", "lot: N", "lot: d", "lot: D"]),
+        2 => ("run: w", ["run: h", UNUSED, UNUSED, UNUSED]),
+        3 => ("block: w", ["block: p", UNUSED, UNUSED, UNUSED]),
+        _ => ("stop: why", ["stop: days", UNUSED, UNUSED, UNUSED]),
+    };
+    match record::NUMBERS.iter().position(|place| place.contains(byte)) {
+        Some(k) => numbers[k],
+        None if record::KIND.contains(byte) => "record kind",
+        None if record::FLAG.contains(byte) => flag,
+        None => "zero bytes of a record",
     }
 }
 
@@ -98,8 +97,8 @@ fn change_all(random: &mut Random, area: &mut [u8], store: &[u8]) -> &'static st
             "one byte"
         }
         _ => {
-            let stream = random.below(STREAMS as usize);
-            area.copy_from_slice(&store[stream * AREA..][..AREA]);
+            let stream = random.range(0, STREAMS - 1);
+            area.copy_from_slice(&store[area_at(stream)]);
             ANOTHER_AREA
         }
     }
@@ -108,23 +107,23 @@ fn change_all(random: &mut Random, area: &mut [u8], store: &[u8]) -> &'static st
 fn change_header(random: &mut Random, count: usize, area: &mut [u8]) -> &'static str {
     match random.below(6) {
         0 if count > 0 => {
-            area[2] = area[2].wrapping_sub(1);
+            set_count(area, count - 1);
             "count one less, the record left"
         }
         1 if count < FULL => {
-            area[2] = area[2].wrapping_add(1);
+            set_count(area, count + 1);
             "count one more, no record"
         }
         2 => {
-            area[2..4].copy_from_slice(&random.pick(&[129u16, 255, 256, 257, 384, 65_535]).to_le_bytes());
+            set_count(area, random.pick(&[129, 255, 256, 257, 384, 65_535]));
             "count above 128"
         }
         3 => {
-            raise(area, &[16, 24, 32], 1);
+            raise(area, &[header::CREDIT.at, header::C.at, header::ACCEPTED.at], 1);
             "figures raised together"
         }
         4 => {
-            area[0] = random.pick(&[0, 0, 1, 2, 3, 4, 255]);
+            header::KIND.put(area, random.pick(&[0, 0, 1, 2, 3, 4, 255]));
             "plan kind"
         }
         _ => {
@@ -137,27 +136,28 @@ fn change_header(random: &mut Random, count: usize, area: &mut [u8]) -> &'static
 
 /// Numbers of the records, some with figures to match.
 fn change_number(random: &mut Random, count: usize, area: &mut [u8]) -> &'static str {
-    let here = record(random.below(count));
-    let next = here + RECORD;
-    let alike = |area: &[u8], kind: u8| next < record(count) && area[here] == kind && area[next] == kind;
+    let k = random.below(count);
+    let (here, next) = (record_at(k).start, record_at(k + 1).start);
+    let alike = |area: &[u8], kind: u8| k + 1 < count && area[here] == kind && area[next] == kind;
+    let [first, second, third, fourth] = record::NUMBERS.map(|place| place.at);
     match random.below(5) {
         0 if alike(area, 1) => {
             let by = random.range(1, 3);
-            raise(area, &[here + 8], by.wrapping_neg());
-            raise(area, &[next + 8], by);
+            raise(area, &[here + second], by.wrapping_neg());
+            raise(area, &[next + second], by);
             "N moved from one lot to another"
         }
         0 | 1 if alike(area, 2) => {
-            raise(area, &[here + 4], u32::MAX);
-            raise(area, &[next + 4], 1);
+            raise(area, &[here + first], u32::MAX);
+            raise(area, &[next + first], 1);
             "h moved from one run to another"
         }
         2 => {
-            raise(area, &[here + 8, 16, 32], 1);
+            raise(area, &[here + second, header::CREDIT.at, header::ACCEPTED.at], 1);
             "N, credit and accepted raised"
         }
         3 => {
-            raise(area, &[here + 12, here + 16], 1);
+            raise(area, &[here + third, here + fourth], 1);
             "d and D raised"
         }
         _ => {
@@ -172,39 +172,40 @@ fn change_number(random: &mut Random, count: usize, area: &mut [u8]) -> &'static
 fn change_records(random: &mut Random, count: usize, area: &mut [u8]) -> &'static str {
     match random.below(4) {
         0 if count > 1 => {
-            let (before, after) = area.split_at_mut(record(random.below(count - 1) + 1));
+            let (before, after) = area.split_at_mut(record_at(random.below(count - 1) + 1).start);
             let last = before.len() - RECORD;
             before[last..].swap_with_slice(&mut after[..RECORD]);
             "two neighbouring records swapped"
         }
         1 if count < FULL => {
-            area[2] = area[2].wrapping_add(1);
-            let stop = &mut area[record(count)..];
-            (stop[0], stop[1], stop[4]) = (4, random.pick(&[0, 1, 1, 2, 3]), random.pick(&[0, 0, 3, 4, 255]));
+            set_count(area, count + 1);
+            let stop = &mut area[record_at(count)];
+            record::KIND.put(stop, 4);
+            record::FLAG.put(stop, random.pick(&[0, 1, 1, 2, 3]));
+            record::NUMBERS[0].put(stop, random.pick(&[0, 0, 3, 4, 255]));
             "a stop added"
         }
         2 => {
-            area[record(count - 1)..record(count)].fill(0);
+            area[record_at(count - 1)].fill(0);
             "the newest record zeroed, the count left"
         }
         _ => {
-            area[record(count - 1)..record(count)].fill(0);
-            area[2] = area[2].wrapping_sub(1);
+            area[record_at(count - 1)].fill(0);
+            set_count(area, count - 1);
             "the newest record removed"
         }
     }
 }
 
-/// Where a record starts.
-fn record(k: usize) -> usize {
-    RECORDS_FROM + RECORD * k
+fn set_count(area: &mut [u8], count: usize) {
+    header::COUNT.put(area, count as u64);
 }
 
 /// Adds to the four-byte numbers at these places.
 fn raise(area: &mut [u8], places: &[usize], by: u32) {
     for at in places {
-        let number = &mut area[*at..*at + 4];
-        let raised = (little(number, 0, 4) as u32).wrapping_add(by);
-        number.copy_from_slice(&raised.to_le_bytes());
+        let place = Place { at: *at, length: 4 };
+        let raised = (place.get(area) as u32).wrapping_add(by);
+        place.put(area, raised.into());
     }
 }

@@ -2,11 +2,11 @@
 //! is sound still (another label, another limit), the answers and bytes of that other area.
 
 use crate::changes::{change, part, ALWAYS_SOUND, SOUND_AS_A_WHOLE, SOUND_BY_ONE_BYTE};
-use crate::compare::{at, make, same};
 use crate::{said, Done, Setting};
+use outside::{at, make, same};
 use reference::{
-    answer, area_bytes, call_of, call_on_store, read_area, Call, Caller, Frame, Random, Station, AREA, ARGUMENTS, FULL, STORE,
-    STREAMS,
+    answer, area_at, area_bytes, call_of, call_on_store, plain_frames, read_area, Call, Caller, Frame, Random, Station, AREA, FULL,
+    LOT, STORE, STREAMS,
 };
 use std::collections::BTreeMap;
 
@@ -146,8 +146,7 @@ impl Tried {
     fn each_call(&mut self, frames: &[Frame], bytes: &[u8]) -> Result<bool, String> {
         let station = read_area(bytes);
         for frame in frames {
-            let from = frame.stream as usize * AREA;
-            let area = from..from + AREA;
+            let area = area_at(frame.stream);
             self.store[area.clone()].copy_from_slice(bytes);
             self.expected[area.clone()].copy_from_slice(bytes);
             let theirs = match station.clone() {
@@ -167,19 +166,15 @@ impl Tried {
 }
 
 /// The eight calls, each accepted on this station if its plan and state let it.
-fn eight_frames(stream: u32, station: &Station) -> Vec<Frame> {
-    let [_, n, _, _] = answer(&mut station.clone(), Call::Ask { size: 201 });
-    let args: [[u32; ARGUMENTS]; 8] = [
-        [1, 0, 15_000, 0, 0],
-        [987_654_321, 201, n, 0, 0],
-        [1, 0, 0, 0, 0],
-        [1, 0, 0, 0, 0],
-        [1, 4, 0, 0, 0],
-        [0; ARGUMENTS],
-        [201, 0, 0, 0, 0],
-        [0; ARGUMENTS],
-    ];
-    (1..).zip(args).map(|(call, args)| Frame { call, stream, args }).collect()
+fn eight_frames(stream: u32, station: &Station) -> [Frame; 8] {
+    const SIZE: u32 = 201;
+    let [_, n, _, _] = answer(&mut station.clone(), Call::Ask { size: SIZE });
+    plain_frames(stream).map(|mut frame| {
+        if frame.call == LOT {
+            frame.args = [987_654_321, SIZE, n, 0, 0];
+        }
+        frame
+    })
 }
 
 /// Beside a list of calls, each area that they reach is changed on a copy of the store.
@@ -214,7 +209,7 @@ fn changed_list(seed: u64, met: &mut Met) -> Result<usize, String> {
 /// The call that the caller would make next on this stream, were it not changed; and one on a neighbour, which is not concerned.
 fn next_calls(caller: &mut Caller, stream: u32, store: &[u8], area: &[u8]) -> Result<usize, String> {
     let mut ours = store.to_vec();
-    ours[stream as usize * AREA..][..AREA].copy_from_slice(area);
+    ours[area_at(stream)].copy_from_slice(area);
     let mut theirs = ours.clone();
     for stream in [stream, (stream + 1) % STREAMS] {
         let frame = caller.call_on(stream);

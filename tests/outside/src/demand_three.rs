@@ -3,11 +3,11 @@
 //! fresh store, through the library: the stream's area must be the same there, every next call must give the same, and the figures
 //! in the bytes must be those that paper 01's backward rules read off the list.
 
-use crate::compare::{at, first_difference, make, same};
 use crate::{said, Done, Setting};
+use outside::{at, first_difference, make, same};
 use reference::{
-    backward_c, backward_credit, backward_phase, backward_tail, backward_window, call_of, entry_of, little, Call, Caller, Entry,
-    Frame, Plan, AREA, CONTINUOUS, CREDIT, LEVEL, STORE, STREAMS,
+    area_at, backward_c, backward_credit, backward_phase, backward_tail, backward_window, call_of, entry_of, header, Call, Caller,
+    Entry, Frame, Plan, CONTINUOUS, CREDIT, LEVEL, STORE, STREAMS,
 };
 
 const LISTS: u64 = 40;
@@ -113,8 +113,7 @@ fn one_list(seed: u64, tally: &mut Tally) -> Result<(), String> {
 
 fn check(caller: &mut Caller, store: &[u8], stream: u32, standing: &Standing, tally: &mut Tally) -> Result<(), String> {
     let other = replay(standing)?;
-    let from = stream as usize * AREA;
-    let area = from..from + AREA;
+    let area = area_at(stream);
     let mut alone = vec![0; STORE];
     alone[area.clone()].copy_from_slice(&store[area.clone()]);
     if other != alone {
@@ -145,7 +144,7 @@ fn replay(standing: &Standing) -> Result<Vec<u8>, String> {
 
 /// Whichever call on this stream follows gives the same on both stores, and leaves the same area.
 fn next_calls(caller: &mut Caller, stream: u32, mut store: Vec<u8>, mut other: Vec<u8>) -> Result<(), String> {
-    let area = stream as usize * AREA..(stream as usize + 1) * AREA;
+    let area = area_at(stream);
     for _ in 0..NEXT {
         let next = caller.call_on(stream);
         let long_lived = make(&mut store, &next);
@@ -163,17 +162,14 @@ fn next_calls(caller: &mut Caller, stream: u32, mut store: Vec<u8>, mut other: V
 fn backward(plan: &Plan, entries: &[Entry], area: &[u8], tally: &mut Tally) -> Result<(), String> {
     let only = |kind, figure: &dyn Fn() -> u32| if plan.kind == kind { u64::from(figure()) } else { 0 };
     let figures = [
-        ("credit", little(area, 16, 4), only(CREDIT, &|| backward_credit(entries))),
-        ("window", little(area, 23, 1), only(LEVEL, &|| backward_window(entries))),
-        ("c", little(area, 24, 4), only(CONTINUOUS, &|| backward_c(plan, entries))),
-        (
-            "phase",
-            little(area, 28, 1),
-            only(CONTINUOUS, &|| backward_phase(plan, entries)),
-        ),
-        ("u", little(area, 30, 2), only(CONTINUOUS, &|| backward_tail(plan, entries))),
+        ("credit", header::CREDIT, only(CREDIT, &|| backward_credit(entries))),
+        ("window", header::WINDOW, only(LEVEL, &|| backward_window(entries))),
+        ("c", header::C, only(CONTINUOUS, &|| backward_c(plan, entries))),
+        ("phase", header::PHASE, only(CONTINUOUS, &|| backward_phase(plan, entries))),
+        ("u", header::U, only(CONTINUOUS, &|| backward_tail(plan, entries))),
     ];
-    for (k, (name, stored, read)) in figures.into_iter().enumerate() {
+    for (k, (name, place, read)) in figures.into_iter().enumerate() {
+        let stored = place.get(area);
         if stored != read {
             return Err(format!("{name} is {stored} in the bytes, {read} read backwards"));
         }

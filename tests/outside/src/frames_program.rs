@@ -1,8 +1,8 @@
 //! The program `frames` on random text, good frames and anything else, written to its standard input in pieces cut anywhere.
 
-use crate::compare::{at, first_difference};
 use crate::{said, Done, Setting};
-use reference::{frame, frames_output, Caller, Frame, Random};
+use outside::at;
+use reference::{frame, frames_output, line, plain_frame, Caller, Random, OPEN};
 use std::io::{Read, Write};
 use std::process::{Command, Stdio};
 use std::time::Duration;
@@ -63,11 +63,7 @@ fn stored_run() -> Result<(), String> {
 
 /// Input without a line, with empty ones, without a line feed at its end, with frames one digit short and one too long.
 fn edges() -> Vec<Vec<u8>> {
-    let good = line(&Frame {
-        call: 1,
-        stream: 0,
-        args: [1, 0, 15_000, 0, 0],
-    });
+    let good = line(&plain_frame(OPEN, 0)).into_bytes();
     let mut edges: Vec<Vec<u8>> = vec![
         b"".to_vec(),
         b"\n".to_vec(),
@@ -94,7 +90,7 @@ fn random_text(seed: u64, tally: &mut Tally) -> Vec<u8> {
     let mut text = Vec::new();
     let mut lines = 0;
     while lines < LINES {
-        let mut good = line(&caller.next_call());
+        let mut good = line(&caller.next_call()).into_bytes();
         if caller.random.chance(1, 6) {
             good = damaged(&mut caller.random, good);
         }
@@ -116,14 +112,6 @@ fn random_text(seed: u64, tally: &mut Tally) -> Vec<u8> {
     tally.lines += lines;
     tally.bytes += text.len();
     text
-}
-
-fn line(frame: &Frame) -> Vec<u8> {
-    let mut line = format!("{:02x}{:02x}", frame.call, frame.stream);
-    for arg in frame.args {
-        line.push_str(&format!("{arg:08x}"));
-    }
-    line.into_bytes()
 }
 
 /// A line with something done to it; some stay frames, some become two lines.
@@ -171,11 +159,7 @@ fn same_lines(ours: &[u8], theirs: &[u8]) -> Result<(), String> {
     let same = ours.iter().zip(theirs).take_while(|(a, b)| a == b);
     let at = same.filter(|(byte, _)| **byte == b'\n').count();
     let (is, expected) = (line_of(ours, at), line_of(theirs, at));
-    Err(format!(
-        "line {} is '{is}', expected '{expected}'; {}",
-        at + 1,
-        first_difference(ours, theirs)
-    ))
+    Err(format!("line {} is '{is}', expected '{expected}'", at + 1))
 }
 
 fn run_in_pieces(input: &[u8], random: &mut Random) -> io::Result<Vec<u8>> {

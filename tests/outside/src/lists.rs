@@ -1,8 +1,8 @@
 //! Long random lists of calls: after each, the answer and every byte of the store. No state may be left out: `reach` counts them.
 
-use crate::compare::{at, make, same};
 use crate::reach::Reach;
 use crate::{said, Done, Setting};
+use outside::{at, make, same};
 use reference::{Answer, Caller, Station, STORE};
 
 const LISTS: u64 = 200;

@@ -8,9 +8,9 @@
 
 mod cases;
 mod changes;
-mod compare;
 mod damage;
 mod demand_three;
+mod forged_areas;
 mod frames_program;
 mod lists;
 mod papers;
@@ -52,7 +52,7 @@ pub struct Done {
 
 type Test = fn(&Setting) -> Result<Done, String>;
 
-const TESTS: [(&str, Test); 8] = [
+const TESTS: [(&str, Test); 9] = [
     ("papers", papers::test),
     ("store lengths", store_lengths::test),
     ("lists", lists::test),
@@ -60,6 +60,7 @@ const TESTS: [(&str, Test); 8] = [
     ("demand 3", demand_three::test),
     ("damaged bytes", damage::every_byte),
     ("damaged areas", damage::whole_areas),
+    ("forged areas", forged_areas::test),
     ("frames program", frames_program::test),
 ];
 

@@ -1,8 +1,8 @@
 //! The papers' own numbers, run through the library.
 
 use crate::cases::{ask, lot, open, CASES, DONE, LAST_LOT_SIZES, SAMPLES, TABLE_A_1, WHOLE_CASE};
-use crate::compare::make;
 use crate::{Done, Setting};
+use outside::make;
 use reference::{frame, Answer, Frame, STORE};
 
 pub fn test(_: &Setting) -> Result<Done, String> {

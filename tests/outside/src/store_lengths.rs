@@ -1,8 +1,8 @@
 //! Stores of another length than 41,728: refusal 1 from every call, on any stream, whatever the bytes, which stay.
 
-use crate::compare::{at, make, same};
 use crate::{Done, Setting};
-use reference::{Caller, Frame, Random, AREA, ARGUMENTS, RECORDS_FROM, STORE};
+use outside::{at, make, same};
+use reference::{plain_frames, Caller, Random, AREA, RECORDS_FROM, STORE};
 
 const LENGTHS: [usize; 16] = [
     0,
@@ -40,12 +40,12 @@ pub fn test(setting: &Setting) -> Result<Done, String> {
                 let place = || format!("a store of {length} bytes, {content}, stream {stream}");
                 at(place, eight_calls(&bytes, stream))?;
                 at(place, whole_list(&bytes, stream))?;
-                calls += 2 * frames(stream).len();
+                calls += plain_frames(stream).len();
             }
         }
     }
     // with the right length the same calls are not refused so
-    for frame in frames(0) {
+    for frame in plain_frames(0) {
         if make(&mut used.clone(), &frame)[0] == 1 {
             return Err(format!("{frame:?}: refusal 1 on {STORE} bytes"));
         }
@@ -55,11 +55,12 @@ pub fn test(setting: &Setting) -> Result<Done, String> {
         LENGTHS.len(),
         setting.seed
     );
-    Ok(Done { calls, what })
+    // by itself and in a list
+    Ok(Done { calls: 2 * calls, what })
 }
 
 fn eight_calls(bytes: &[u8], stream: u32) -> Result<(), String> {
-    for frame in frames(stream) {
+    for frame in plain_frames(stream) {
         let mut store = bytes.to_vec();
         let ours = make(&mut store, &frame);
         at(|| format!("{frame:?}"), same((ours, &store), (REFUSED, bytes)))?;
@@ -69,36 +70,13 @@ fn eight_calls(bytes: &[u8], stream: u32) -> Result<(), String> {
 
 fn whole_list(bytes: &[u8], stream: u32) -> Result<(), String> {
     let mut store = bytes.to_vec();
-    let mut calls = Vec::new();
-    for frame in frames(stream) {
-        calls.extend([frame.call, frame.stream]);
-        calls.extend(frame.args);
-    }
-    let mut answers = vec![7; frames(stream).len() * REFUSED.len()];
+    let calls = plain_frames(stream).map(|frame| frame.numbers()).concat();
+    let mut answers = vec![7; plain_frames(stream).len() * REFUSED.len()];
     let made = listening::list(&mut store, &calls, &mut answers);
     if !made || answers.chunks(REFUSED.len()).any(|answer| answer != REFUSED) || store != bytes {
         return Err(format!("the list gives {made} and {answers:?}"));
     }
     Ok(())
-}
-
-/// The eight calls with arguments that are good somewhere.
-fn frames(stream: u32) -> [Frame; 8] {
-    let args: [[u32; ARGUMENTS]; 8] = [
-        [1, 0, 15_000, 0, 0],
-        [1, 201, 51, 0, 0],
-        [1, 0, 0, 0, 0],
-        [1, 0, 0, 0, 0],
-        [1, 1, 0, 0, 0],
-        [0; 5],
-        [201, 0, 0, 0, 0],
-        [0; 5],
-    ];
-    let mut call = 0;
-    args.map(|args| {
-        call += 1;
-        Frame { call, stream, args }
-    })
 }
 
 fn used_store(seed: u64) -> Vec<u8> {

@@ -1,9 +1,9 @@
 //! `list`: whole lists of calls handed over at once. A malformed one gives false and leaves the store and the answers' room as they
 //! were.
 
-use crate::compare::{at, first_difference};
 use crate::{said, Done, Setting};
-use reference::{Answer, Caller, Frame, Random, ARGUMENTS, STORE};
+use outside::{at, first_difference};
+use reference::{Answer, Caller, Random, ARGUMENTS, LOT, READ, STORE};
 
 const STORES: u64 = 40;
 const LISTS: usize = 400;
@@ -52,7 +52,7 @@ fn good(caller: &mut Caller, store: &mut [u8], expected: &mut [u8], tally: &mut 
         let frame = caller.next_call();
         theirs.push(caller.make(&frame));
         caller.write_area(expected, frame.stream);
-        calls.extend(numbers(&frame));
+        calls.extend(frame.numbers());
         frames.push(frame);
     }
     let mut answers = room(&mut caller.random, length * listening::ANSWER_LENGTH);
@@ -84,7 +84,7 @@ fn malformed(caller: &mut Caller, store: &mut [u8], expected: &[u8], tally: &mut
     let length = caller.random.pick(&[1, 1, 2, 7, 30]);
     let mut calls: Vec<u32> = Vec::new();
     for _ in 0..length {
-        calls.extend(numbers(&caller.next_call()));
+        calls.extend(caller.next_call().numbers());
     }
     let random = &mut caller.random;
     let mut answers_length = length * listening::ANSWER_LENGTH;
@@ -109,20 +109,17 @@ fn malformed(caller: &mut Caller, store: &mut [u8], expected: &[u8], tally: &mut
     if listening::list(store, &calls, &mut answers) {
         return Err(format!("room for {answers_length} numbers, malformed, but made: {calls:?}"));
     }
-    if answers != kept || store != expected {
+    if answers != kept {
+        return Err(format!("malformed, but an answer was written: {calls:?}"));
+    }
+    if store != expected {
         return Err(format!(
-            "malformed, but something was written: {calls:?}; {}",
+            "malformed, but the store was written: {calls:?}; {}",
             first_difference(store, expected)
         ));
     }
     tally.malformed[way] += 1;
     Ok(())
-}
-
-fn numbers(frame: &Frame) -> Vec<u32> {
-    let mut numbers = vec![frame.call, frame.stream];
-    numbers.extend(frame.args);
-    numbers
 }
 
 /// Room for so many numbers, with something in it.
@@ -144,9 +141,9 @@ fn spoil_unused(random: &mut Random, calls: &mut [u32]) {
         .chunks_mut(listening::CALL_LENGTH)
         .nth(random.below(count))
         .expect("a call")[..];
-    if call[0] == 2 {
+    if call[0] == LOT {
         // a lot uses them all
-        call[0] = 8;
+        call[0] = READ;
     }
     let first = used[call[0] as usize - 1];
     call[2 + random.range(first, ARGUMENTS as u32 - 1) as usize] = random.pick(&[1, 2, 256, 65_536, 1 << 31, u32::MAX]);

@@ -2,6 +2,7 @@
 
 use crate::calls::{answer, call_of, record_kind, Answer, Call, Frame};
 use crate::station::{figures, Entry, Plan, Station, FULL};
+use std::ops::Range;
 
 pub const STREAMS: u32 = 16;
 pub const AREA: usize = 2_608;
@@ -10,25 +11,76 @@ pub const STORE: usize = 41_728;
 pub const RECORDS_FROM: usize = 48;
 pub const RECORD: usize = 20;
 
-fn put(bytes: &mut [u8], at: usize, length: usize, value: u64) {
-    let mut rest = value;
-    for byte in &mut bytes[at..at + length] {
-        *byte = (rest % 256) as u8;
-        rest /= 256;
+/// Where a little-endian number starts in an area or a record, and its length in bytes.
+#[derive(Clone, Copy)]
+pub struct Place {
+    pub at: usize,
+    pub length: usize,
+}
+
+const fn place(at: usize, length: usize) -> Place {
+    Place { at, length }
+}
+
+/// Paper 01, The store: the area offsets before the records. Bytes in none of them are zero.
+pub mod header {
+    use super::{place, Place};
+
+    pub const KIND: Place = place(0, 1);
+    pub const OPTION: Place = place(1, 1);
+    pub const COUNT: Place = place(2, 2);
+    pub const A: Place = place(4, 4);
+    pub const B: Place = place(8, 2);
+    pub const CREDIT: Place = place(16, 4);
+    pub const LEVEL: Place = place(20, 1);
+    pub const ROW: Place = place(21, 1);
+    pub const TIGHTENED: Place = place(22, 1);
+    pub const WINDOW: Place = place(23, 1);
+    pub const C: Place = place(24, 4);
+    pub const PHASE: Place = place(28, 1);
+    pub const U: Place = place(30, 2);
+    pub const ACCEPTED: Place = place(32, 8);
+}
+
+/// The same of a record: kind, flag, two zero bytes, four numbers.
+pub mod record {
+    use super::{place, Place};
+
+    pub const KIND: Place = place(0, 1);
+    pub const FLAG: Place = place(1, 1);
+    pub const NUMBERS: [Place; 4] = [place(4, 4), place(8, 4), place(12, 4), place(16, 4)];
+}
+
+impl Place {
+    pub fn get(self, bytes: &[u8]) -> u64 {
+        let number = &bytes[self.at..self.at + self.length];
+        number.iter().rev().fold(0, |number, byte| number * 256 + u64::from(*byte))
     }
-    assert!(rest == 0, "number too large for its bytes");
+
+    pub fn put(self, bytes: &mut [u8], value: u64) {
+        let mut rest = value;
+        for byte in &mut bytes[self.at..self.at + self.length] {
+            *byte = (rest % 256) as u8;
+            rest /= 256;
+        }
+        assert!(rest == 0, "number too large for its bytes");
+    }
+
+    pub fn contains(self, byte: usize) -> bool {
+        byte >= self.at && byte < self.at + self.length
+    }
 }
 
-/// The little-endian number of so many bytes.
-pub fn little(bytes: &[u8], at: usize, length: usize) -> u64 {
-    bytes[at..at + length]
-        .iter()
-        .rev()
-        .fold(0, |number, byte| number * 256 + u64::from(*byte))
+/// The bytes of a stream's area in the store.
+pub fn area_at(stream: u32) -> Range<usize> {
+    let from = stream as usize * AREA;
+    from..from + AREA
 }
 
-fn number(bytes: &[u8], at: usize) -> u32 {
-    little(bytes, at, 4) as u32
+/// The bytes of a record in its area, by its place among the records.
+pub fn record_at(k: usize) -> Range<usize> {
+    let from = RECORDS_FROM + RECORD * k;
+    from..from + RECORD
 }
 
 /// The area of a station: all zero before Open.
@@ -37,7 +89,7 @@ pub fn area_bytes(station: &Station) -> Vec<u8> {
     if let Some(plan) = station.plan {
         put_header(&mut bytes, &plan, station);
         for (k, entry) in station.entries.iter().enumerate() {
-            put_record(&mut bytes[RECORDS_FROM + RECORD * k..][..RECORD], entry);
+            put_record(&mut bytes[record_at(k)], entry);
         }
     }
     bytes
@@ -45,20 +97,20 @@ pub fn area_bytes(station: &Station) -> Vec<u8> {
 
 fn put_header(bytes: &mut [u8], plan: &Plan, station: &Station) {
     let figures = figures(plan, &station.entries);
-    put(bytes, 0, 1, u64::from(plan.kind));
-    put(bytes, 1, 1, u64::from(plan.option));
-    put(bytes, 2, 2, station.entries.len() as u64);
-    put(bytes, 4, 4, u64::from(plan.a));
-    put(bytes, 8, 2, u64::from(plan.b));
-    put(bytes, 16, 4, u64::from(figures.credit));
-    put(bytes, 20, 1, u64::from(figures.level));
-    put(bytes, 21, 1, u64::from(figures.row));
-    put(bytes, 22, 1, u64::from(figures.tightened));
-    put(bytes, 23, 1, u64::from(figures.window));
-    put(bytes, 24, 4, u64::from(figures.c));
-    put(bytes, 28, 1, u64::from(figures.phase));
-    put(bytes, 30, 2, u64::from(figures.u));
-    put(bytes, 32, 8, figures.accepted);
+    header::KIND.put(bytes, plan.kind.into());
+    header::OPTION.put(bytes, plan.option.into());
+    header::COUNT.put(bytes, station.entries.len() as u64);
+    header::A.put(bytes, plan.a.into());
+    header::B.put(bytes, plan.b.into());
+    header::CREDIT.put(bytes, figures.credit.into());
+    header::LEVEL.put(bytes, figures.level.into());
+    header::ROW.put(bytes, figures.row.into());
+    header::TIGHTENED.put(bytes, figures.tightened.into());
+    header::WINDOW.put(bytes, figures.window.into());
+    header::C.put(bytes, figures.c.into());
+    header::PHASE.put(bytes, figures.phase.into());
+    header::U.put(bytes, figures.u.into());
+    header::ACCEPTED.put(bytes, figures.accepted);
 }
 
 fn put_record(bytes: &mut [u8], entry: &Entry) {
@@ -68,10 +120,10 @@ fn put_record(bytes: &mut [u8], entry: &Entry) {
         Entry::Block { p, w } => (w, [p, 0, 0, 0]),
         Entry::Stop { why, days } => (why, [days, 0, 0, 0]),
     };
-    put(bytes, 0, 1, u64::from(record_kind(entry)));
-    put(bytes, 1, 1, u64::from(flag));
-    for (k, number) in numbers.into_iter().enumerate() {
-        put(bytes, 4 + 4 * k, 4, u64::from(number));
+    record::KIND.put(bytes, record_kind(entry).into());
+    record::FLAG.put(bytes, flag.into());
+    for (place, number) in record::NUMBERS.into_iter().zip(numbers) {
+        place.put(bytes, number.into());
     }
 }
 
@@ -83,18 +135,18 @@ pub fn read_area(bytes: &[u8]) -> Option<Station> {
     if bytes.iter().all(|byte| *byte == 0) {
         return Some(station);
     }
-    let count = little(bytes, 2, 2) as usize;
+    let count = header::COUNT.get(bytes) as usize;
     let plan = Plan {
-        kind: bytes[0].into(),
-        option: bytes[1].into(),
-        a: number(bytes, 4),
-        b: little(bytes, 8, 2) as u32,
+        kind: header::KIND.get(bytes) as u32,
+        option: header::OPTION.get(bytes) as u32,
+        a: header::A.get(bytes) as u32,
+        b: header::B.get(bytes) as u32,
     };
     if count > FULL || answer(&mut station, Call::Open(plan))[0] != 0 {
         return None;
     }
     for k in 0..count {
-        let call = record_call(&mut station, &bytes[RECORDS_FROM + RECORD * k..][..RECORD])?;
+        let call = record_call(&mut station, &bytes[record_at(k)])?;
         if answer(&mut station, call)[0] != 0 {
             return None;
         }
@@ -102,22 +154,21 @@ pub fn read_area(bytes: &[u8]) -> Option<Station> {
     (area_bytes(&station) == bytes).then_some(station)
 }
 
-fn record_call(station: &mut Station, record: &[u8]) -> Option<Call> {
-    let flag = u32::from(record[1]);
-    let first = number(record, 4);
-    match record[0] {
+fn record_call(station: &mut Station, bytes: &[u8]) -> Option<Call> {
+    let flag = record::FLAG.get(bytes) as u32;
+    let [first, second, third, fourth] = record::NUMBERS.map(|place| place.get(bytes) as u32);
+    match record::KIND.get(bytes) {
         1 => {
             // n is in no record: the only one that could have been accepted is the one asked
-            let size = number(record, 8);
-            let [0, n, _, _] = answer(station, Call::Ask { size }) else {
+            let [0, n, _, _] = answer(station, Call::Ask { size: second }) else {
                 return None;
             };
             Some(Call::Lot {
                 label: first,
-                size,
+                size: second,
                 n,
-                d: number(record, 12),
-                all: number(record, 16),
+                d: third,
+                all: fourth,
             })
         }
         2 => Some(Call::Run { h: first, w: flag }),
@@ -135,7 +186,7 @@ pub fn call_on_store(store: &mut [u8], frame: &Frame) -> Answer {
     if frame.stream >= STREAMS {
         return [2, 0, 0, 0];
     }
-    let area = &mut store[frame.stream as usize * AREA..][..AREA];
+    let area = &mut store[area_at(frame.stream)];
     let Some(mut station) = read_area(area) else {
         return [3, 0, 0, 0];
     };

@@ -1,20 +1,12 @@
 //! Random arguments for each call: good ones for the stream as it stands, and, so often as the caller's mood has it, bad ones of
 //! every sort.
 
-use crate::calls::{newest_label, ARGUMENTS};
+use crate::calls::{newest_label, Frame, ARGUMENTS, ASK, BLOCK, LOT, OPEN, RUN, STOP};
 use crate::random::Random;
 use crate::station::{sample, verdict, Figures, Plan, Station, CONTINUOUS, CREDIT, LEVEL};
+use std::array;
 
 pub type Args = [u32; ARGUMENTS];
-
-pub const OPEN: u32 = 1;
-pub const LOT: u32 = 2;
-pub const RUN: u32 = 3;
-pub const BLOCK: u32 = 4;
-pub const STOP: u32 = 5;
-pub const BACK: u32 = 6;
-pub const ASK: u32 = 7;
-pub const READ: u32 = 8;
 
 /// How a caller is minded: so many of a thousand calls.
 #[derive(Clone, Copy)]
@@ -39,14 +31,22 @@ impl Mood {
     }
 }
 
-/// Arguments that are good on some stream.
-pub fn plain_args(call: u32) -> Args {
-    match call {
+/// A call with arguments that are good on some stream.
+pub fn plain_frame(call: u32, stream: u32) -> Frame {
+    let args = match call {
+        OPEN => [CREDIT, 0, 15_000, 0, 0],
         LOT => [1, 201, 51, 0, 0],
-        RUN | BLOCK | STOP => [1, 0, 0, 0, 0],
-        ASK => [100, 0, 0, 0, 0],
+        RUN | BLOCK => [1, 0, 0, 0, 0],
+        STOP => [1, 4, 0, 0, 0],
+        ASK => [201, 0, 0, 0, 0],
         _ => [0; ARGUMENTS],
-    }
+    };
+    Frame { call, stream, args }
+}
+
+/// The eight calls, in the order of their numbers.
+pub fn plain_frames(stream: u32) -> [Frame; 8] {
+    array::from_fn(|k| plain_frame(OPEN + k as u32, stream))
 }
 
 pub fn any_plan_args(random: &mut Random) -> Args {

@@ -5,6 +5,16 @@ use crate::station::{enter, figures, sample, verdict, Entry, Figures, Plan, Stat
 /// The refusal number, then the three numbers.
 pub type Answer = [u32; 4];
 
+/// The calls' numbers.
+pub const OPEN: u32 = 1;
+pub const LOT: u32 = 2;
+pub const RUN: u32 = 3;
+pub const BLOCK: u32 = 4;
+pub const STOP: u32 = 5;
+pub const BACK: u32 = 6;
+pub const ASK: u32 = 7;
+pub const READ: u32 = 8;
+
 /// A call has so many places for arguments.
 pub const ARGUMENTS: usize = 5;
 
@@ -14,6 +24,14 @@ pub struct Frame {
     pub call: u32,
     pub stream: u32,
     pub args: [u32; ARGUMENTS],
+}
+
+impl Frame {
+    /// As a list holds it.
+    pub fn numbers(&self) -> [u32; 2 + ARGUMENTS] {
+        let [a, b, c, d, e] = self.args;
+        [self.call, self.stream, a, b, c, d, e]
+    }
 }
 
 #[derive(Clone, Copy, Debug, PartialEq, Eq)]
@@ -48,14 +66,14 @@ pub enum Call {
 /// The call of a frame; none where its number is outside 1 to 8 or an unused argument is not 0.
 pub fn call_of(frame: &Frame) -> Option<Call> {
     match (frame.call, frame.args) {
-        (1, [kind, option, a, b, 0]) => Some(Call::Open(Plan { kind, option, a, b })),
-        (2, [label, size, n, d, all]) => Some(Call::Lot { label, size, n, d, all }),
-        (3, [h, w, 0, 0, 0]) => Some(Call::Run { h, w }),
-        (4, [p, w, 0, 0, 0]) => Some(Call::Block { p, w }),
-        (5, [why, days, 0, 0, 0]) => Some(Call::Stop { why, days }),
-        (6, [0, 0, 0, 0, 0]) => Some(Call::Back),
-        (7, [size, 0, 0, 0, 0]) => Some(Call::Ask { size }),
-        (8, [0, 0, 0, 0, 0]) => Some(Call::Read),
+        (OPEN, [kind, option, a, b, 0]) => Some(Call::Open(Plan { kind, option, a, b })),
+        (LOT, [label, size, n, d, all]) => Some(Call::Lot { label, size, n, d, all }),
+        (RUN, [h, w, 0, 0, 0]) => Some(Call::Run { h, w }),
+        (BLOCK, [p, w, 0, 0, 0]) => Some(Call::Block { p, w }),
+        (STOP, [why, days, 0, 0, 0]) => Some(Call::Stop { why, days }),
+        (BACK, [0, 0, 0, 0, 0]) => Some(Call::Back),
+        (ASK, [size, 0, 0, 0, 0]) => Some(Call::Ask { size }),
+        (READ, [0, 0, 0, 0, 0]) => Some(Call::Read),
         _ => None,
     }
 }

@@ -29,6 +29,16 @@ pub fn frame(line: &[u8]) -> Option<Frame> {
     call_of(&frame).map(|_| frame)
 }
 
+/// The line of a frame whose stream a line can hold.
+pub fn line(frame: &Frame) -> String {
+    let Frame {
+        call,
+        stream,
+        args: [a, b, c, d, e],
+    } = frame;
+    format!("{call:02x}{stream:02x}{a:08x}{b:08x}{c:08x}{d:08x}{e:08x}")
+}
+
 /// All that the program prints for this input.
 pub fn frames_output(input: &[u8]) -> Vec<u8> {
     let mut lines: Vec<&[u8]> = input.split(|byte| *byte == b'\n').collect();

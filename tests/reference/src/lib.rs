@@ -14,10 +14,13 @@ mod random;
 mod samples;
 mod station;
 
-pub use area::{area_bytes, call_on_store, little, read_area, AREA, RECORD, RECORDS_FROM, STORE, STREAMS};
+pub use area::{
+    area_at, area_bytes, call_on_store, header, read_area, record, record_at, Place, AREA, RECORD, RECORDS_FROM, STORE, STREAMS,
+};
+pub use arguments::{plain_frame, plain_frames};
 pub use backward::{backward_c, backward_credit, backward_phase, backward_tail, backward_window};
-pub use calls::{answer, call_of, entry_of, Answer, Call, Frame, ARGUMENTS};
-pub use frames::{frame, frames_output};
+pub use calls::{answer, call_of, entry_of, Answer, Call, Frame, ARGUMENTS, ASK, BACK, BLOCK, LOT, OPEN, READ, RUN, STOP};
+pub use frames::{frame, frames_output, line};
 pub use making::Caller;
 pub use random::Random;
 pub use station::{figures, Entry, Figures, Plan, Station, CONTINUOUS, CREDIT, FULL, LEVEL};

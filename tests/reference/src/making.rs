@@ -2,12 +2,12 @@
 //! often it takes back, stops, or errs. It knows the stations by the reference, so that it can ask for the sample a lot needs, end
 //! a screening just at its clearance number, or withhold just the lots that bring a stream to discontinued as it gets full.
 
-use crate::area::{area_bytes, AREA, STREAMS};
+use crate::area::{area_at, area_bytes, STREAMS};
 use crate::arguments::{
-    any_plan_args, asked_size, bad_plan_args, block_args, lot_args, lot_size, plain_args, plan_args, run_args, stop_args, Args,
-    Mood, ASK, BACK, BLOCK, LOT, OPEN, READ, RUN, STOP,
+    any_plan_args, asked_size, bad_plan_args, block_args, lot_args, lot_size, plain_frame, plan_args, run_args, stop_args, Args,
+    Mood,
 };
-use crate::calls::{answer, call_of, Answer, Frame, ARGUMENTS};
+use crate::calls::{answer, call_of, Answer, Frame, ARGUMENTS, ASK, BACK, BLOCK, LOT, OPEN, READ, RUN, STOP};
 use crate::random::Random;
 use crate::station::{figures, Figures, Plan, Station, CONTINUOUS, FULL, LEVEL};
 
@@ -65,7 +65,7 @@ impl Caller {
     /// Writes the stream's area, as the reference has it, into a store.
     pub fn write_area(&self, store: &mut [u8], stream: u32) {
         if let Some(station) = self.station(stream) {
-            store[stream as usize * AREA..][..AREA].copy_from_slice(&area_bytes(station));
+            store[area_at(stream)].copy_from_slice(&area_bytes(station));
         }
     }
 
@@ -110,13 +110,14 @@ impl Caller {
     fn wrong_stream(&mut self) -> Frame {
         let streams = [16, 17, 31, 128, 254, 255, 256, 257, 65_536, 1 << 31, u32::MAX];
         let stream = self.random.pick(&streams).min(self.highest_stream);
-        let call = self.random.range(OPEN, READ);
-        let args = if call == OPEN {
-            any_plan_args(&mut self.random)
-        } else {
-            plain_args(call)
-        };
-        Frame { call, stream, args }
+        match self.random.range(OPEN, READ) {
+            OPEN => Frame {
+                call: OPEN,
+                stream,
+                args: any_plan_args(&mut self.random),
+            },
+            call => plain_frame(call, stream),
+        }
     }
 
     fn on_unopened(&mut self, s: usize) -> (u32, Args) {
@@ -128,7 +129,7 @@ impl Caller {
             return (OPEN, bad_plan_args(random));
         }
         let call = random.range(LOT, READ);
-        (call, plain_args(call))
+        (call, plain_frame(call, s as u32).args)
     }
 
     fn on_opened(&mut self, s: usize, plan: &Plan) -> (u32, Args) {

@@ -1,20 +1,30 @@
-//! Making a call of the library, and saying where two sides differ.
+//! What the tests and the benchmark share: a call of the library by its frame, where two sides differ, and whether an implementation
+//! agrees with the reference.
 
-use reference::{Answer, Frame, AREA};
+pub mod agreement;
+
+use reference::{Answer, Frame, AREA, ARGUMENTS, ASK, BACK, BLOCK, LOT, OPEN, READ, RUN, STOP, STORE, STREAMS};
+
+// The wrapper's sizes are paper 01's.
+const _: () = assert!(listening::STORE_LENGTH == STORE && listening::STREAMS == STREAMS);
+const _: () = assert!(listening::CALL_LENGTH == 2 + ARGUMENTS && listening::ANSWER_LENGTH == 4);
+
+/// Makes a call on a store.
+pub type Make = fn(&mut [u8], &Frame) -> Answer;
 
 /// The library's call of this frame.
 pub fn make(store: &mut [u8], frame: &Frame) -> Answer {
     let stream = frame.stream;
     let [a, b, c, d, e] = frame.args;
     let answer = match frame.call {
-        1 => listening::open(store, stream, a, b, c, d),
-        2 => listening::lot(store, stream, a, b, c, d, e),
-        3 => listening::run(store, stream, a, b),
-        4 => listening::block(store, stream, a, b),
-        5 => listening::stop(store, stream, a, b),
-        6 => listening::back(store, stream),
-        7 => listening::ask(store, stream, a),
-        8 => listening::read(store, stream),
+        OPEN => listening::open(store, stream, a, b, c, d),
+        LOT => listening::lot(store, stream, a, b, c, d, e),
+        RUN => listening::run(store, stream, a, b),
+        BLOCK => listening::block(store, stream, a, b),
+        STOP => listening::stop(store, stream, a, b),
+        BACK => listening::back(store, stream),
+        ASK => listening::ask(store, stream, a),
+        READ => listening::read(store, stream),
         call => panic!("no call {call}"),
     };
     [answer.refusal, answer.first, answer.second, answer.third]
@@ -33,7 +43,7 @@ pub fn same(ours: (Answer, &[u8]), theirs: (Answer, &[u8])) -> Result<(), String
     ))
 }
 
-/// Where two byte strings differ first, in words.
+/// Where two stores differ first, in words.
 pub fn first_difference(ours: &[u8], theirs: &[u8]) -> String {
     match ours.iter().zip(theirs).position(|(a, b)| a != b) {
         Some(at) => {

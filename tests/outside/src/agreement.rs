@@ -1,83 +1,95 @@
-//! Whether an implementation answers as the reference does and leaves the same bytes: on random lists of calls, and on areas that
-//! were damaged after them.
+//! Whether an implementation answers as the reference does and leaves the same bytes: on random lists of calls, on areas that were
+//! damaged after them, some with figures that fit the damage, and at edges. The library is tested so, and each implementation before
+//! it is measured.
 
-use crate::Make;
-use reference::{area_bytes, call_on_store, figures, Caller, Entry, Frame, Random, Station, AREA, FULL, STORE};
+use crate::{at, same, Make};
+use reference::{
+    area_at, area_bytes, call_on_store, figures, header, plain_frames, read_area, record_at, Caller, Entry, Frame, Random, Station,
+    AREA, CREDIT, FULL, LOT, OPEN, RECORD, RECORDS_FROM, STOP, STORE, STREAMS,
+};
 
 // Damage is done after every so many calls of a list, so many times.
 const BETWEEN_DAMAGES: usize = 20;
 const DAMAGES: usize = 6;
 
-// Arguments for each call by its number.
-const SOME_ARGUMENTS: [[u32; 5]; 9] = [
-    [0; 5],
-    [1, 0, 15_000, 0, 0],
-    [7, 100, 40, 0, 0],
-    [3, 0, 0, 0, 0],
-    [3, 1, 0, 0, 0],
-    [1, 2, 0, 0, 0],
-    [0; 5],
-    [100, 0, 0, 0, 0],
-    [0; 5],
-];
+/// So many calls were compared; so many damaged areas were sound still, and unsound.
+#[derive(Default)]
+pub struct Compared {
+    pub calls: usize,
+    pub sound: usize,
+    pub unsound: usize,
+}
 
 /// Makes a list of random calls, and calls on damaged copies of what it leaves.
-pub fn agrees(make: Make, seed: u64, calls: usize) -> Result<(), String> {
+pub fn agrees(make: Make, seed: u64, calls: usize, compared: &mut Compared) -> Result<(), String> {
     let mut caller = Caller::new(seed, calls, u32::MAX);
     let (mut ours, mut theirs) = (vec![0; STORE], vec![0; STORE]);
     for k in 0..calls {
         let frame = caller.next_call();
         let expected = caller.make(&frame);
         caller.write_area(&mut theirs, frame.stream);
-        same(make(&mut ours, &frame) == expected && ours == theirs, seed, &frame)?;
-        if k % BETWEEN_DAMAGES == 0 && frame.stream < 16 {
-            on_damaged(make, &mut caller, &ours, frame.stream).map_err(|frame| told(seed, &frame))?;
+        let place = || format!("seed {seed}, call {k}, {frame:?}");
+        at(place, same((make(&mut ours, &frame), &ours), (expected, &theirs)))?;
+        compared.calls += 1;
+        if k % BETWEEN_DAMAGES == 0 && frame.stream < STREAMS {
+            at(place, on_damaged(make, &mut caller, &ours, frame.stream, compared))?;
         }
-    }
-    for length in [0, STORE - 1, STORE + 1] {
-        let frame = Frame {
-            call: 8,
-            stream: 0,
-            args: [0; 5],
-        };
-        same(make(&mut vec![0; length], &frame) == [1, 0, 0, 0], seed, &frame)?;
     }
     Ok(())
 }
 
-fn same(is_same: bool, seed: u64, frame: &Frame) -> Result<(), String> {
-    is_same.then_some(()).ok_or_else(|| told(seed, frame))
+/// Makes calls where random ones hardly get: stores of another length; a sample without a rest, with one wrong more than it; a number
+/// whose low bytes would do.
+pub fn agrees_at_edges(make: Make, compared: &mut Compared) -> Result<(), String> {
+    for length in [0, STORE - 1, STORE + 1] {
+        for frame in plain_frames(0) {
+            agrees_on(make, &mut vec![0; length], &frame, compared)?;
+        }
+    }
+    let calls = [
+        (OPEN, [CREDIT, 0, 10_000, 0, 0]),
+        (LOT, [1, 9_900, 99, 100, 100]),
+        (STOP, [1 << 24 | 1, 2, 0, 0, 0]),
+    ];
+    let mut store = vec![0; STORE];
+    for (call, args) in calls {
+        agrees_on(make, &mut store, &Frame { call, stream: 3, args }, compared)?;
+    }
+    Ok(())
 }
 
-fn told(seed: u64, frame: &Frame) -> String {
-    format!("not as the reference: seed {seed}, {frame:?}")
+// Makes the call on the store, and on a copy by the reference.
+fn agrees_on(make: Make, store: &mut [u8], frame: &Frame, compared: &mut Compared) -> Result<(), String> {
+    let mut theirs = store.to_vec();
+    let expected = call_on_store(&mut theirs, frame);
+    let answer = make(store, frame);
+    compared.calls += 1;
+    at(
+        || format!("{} bytes, {frame:?}", store.len()),
+        same((answer, store), (expected, &theirs)),
+    )
 }
 
 // Damages the stream's area in some ways, and makes each of the calls there.
-fn on_damaged(make: Make, caller: &mut Caller, store: &[u8], stream: u32) -> Result<(), Frame> {
+fn on_damaged(make: Make, caller: &mut Caller, store: &[u8], stream: u32, compared: &mut Compared) -> Result<(), String> {
     let station = caller.station(stream).expect("a stream").clone();
     for _ in 0..DAMAGES {
-        let mut area = store[stream as usize * AREA..][..AREA].to_vec();
+        let mut area = store[area_at(stream)].to_vec();
         match caller.random.below(6) {
             0 => add_stop(&mut area, station.entries.len()),
             1 | 2 => change_byte(&mut caller.random, &mut area, station.entries.len()),
             _ => area = area_bytes(&forged(&mut caller.random, station.clone())),
         }
+        match read_area(&area) {
+            Some(_) => compared.sound += 1,
+            None => compared.unsound += 1,
+        }
         let mut damaged = store.to_vec();
-        damaged[stream as usize * AREA..][..AREA].copy_from_slice(&area);
-        for call in 1..=8 {
-            let mut frame = caller.call_on(stream);
-            if frame.call != call {
-                frame = Frame {
-                    call,
-                    stream,
-                    args: SOME_ARGUMENTS[call as usize],
-                };
-            }
-            let (mut ours, mut theirs) = (damaged.clone(), damaged.clone());
-            if make(&mut ours, &frame) != call_on_store(&mut theirs, &frame) || ours != theirs {
-                return Err(frame);
-            }
+        damaged[area_at(stream)].copy_from_slice(&area);
+        for plain in plain_frames(stream) {
+            let next = caller.call_on(stream);
+            let frame = if next.call == plain.call { next } else { plain };
+            at(|| "damaged".into(), agrees_on(make, &mut damaged.clone(), &frame, compared))?;
         }
     }
     Ok(())
@@ -86,17 +98,16 @@ fn on_damaged(make: Make, caller: &mut Caller, store: &[u8], stream: u32) -> Res
 // One more stop, of no effect: it can stand anywhere but on a discontinued stream.
 fn add_stop(area: &mut [u8], entries: usize) {
     if entries < FULL {
-        area[2] += 1;
-        area[48 + 20 * entries..][..8].copy_from_slice(&[4, 1, 0, 0, 2, 0, 0, 0]);
+        header::COUNT.put(area, entries as u64 + 1);
+        area[record_at(entries)][..8].copy_from_slice(&[4, 1, 0, 0, 2, 0, 0, 0]);
     }
 }
 
 // One byte of the header, of a standing record, or of the rest.
 fn change_byte(random: &mut Random, area: &mut [u8], entries: usize) {
-    let records = 48..48 + 20 * entries;
     let at = match random.below(3) {
-        0 => random.below(48),
-        1 if entries > 0 => records.start + random.below(records.len()),
+        0 => random.below(RECORDS_FROM),
+        1 if entries > 0 => RECORDS_FROM + random.below(RECORD * entries),
         _ => random.below(AREA),
     };
     area[at] = match random.below(3) {
@@ -147,39 +158,4 @@ fn forged(random: &mut Random, mut station: Station) -> Station {
     let end = (0..station.entries.len()).find(ended).unwrap_or(station.entries.len());
     station.entries.truncate(end);
     station
-}
-
-#[cfg(test)]
-mod tests {
-    use super::*;
-
-    #[test]
-    fn fast_calls_answer_as_the_reference() {
-        for seed in 0..12 {
-            agrees(crate::fast, seed, 1_500).unwrap();
-        }
-    }
-
-    #[test]
-    fn proved_calls_answer_as_the_reference() {
-        for seed in 0..6 {
-            agrees(crate::proved, seed, 1_500).unwrap();
-        }
-    }
-
-    // Where random calls hardly get: a sample without a rest, with one wrong more than it; a number whose low bytes would do.
-    #[test]
-    fn edges_are_as_in_the_reference() {
-        let calls = [
-            (1, [1, 0, 10_000, 0, 0]),
-            (2, [1, 9_900, 99, 100, 100]),
-            (5, [1 << 24 | 1, 2, 0, 0, 0]),
-        ];
-        let (mut ours, mut theirs) = (vec![0; STORE], vec![0; STORE]);
-        for (call, args) in calls {
-            let frame = Frame { call, stream: 3, args };
-            assert_eq!(crate::fast(&mut ours, &frame), call_on_store(&mut theirs, &frame));
-            assert_eq!(ours, theirs);
-        }
-    }
 }
