@@ -67,12 +67,14 @@ mod c {
 
 /// Opens a stream: kind 1 credit (`a`: limit in millionths), 2 level (`a`: VL), 3 continuous (`a`: clearance number, `b`: interval).
 /// Option 1: a credit lot with a wrong one is heard whole also with credit; a level stream may go to reduced.
+#[inline]
 pub fn open(store: &mut [u8], stream: u32, kind: u32, option: u32, a: u32, b: u32) -> Answer {
     unsafe { c::listening_open(store.as_mut_ptr(), store.len(), stream, kind, option, a, b) }
 }
 
 /// Enters a lot (`size` N, `sample` n, `wrong` d, `wrong_in_all` D). Gives the verdict (1 accepted, 2 all heard, 3 returned or
 /// withheld), what is accepted, and the credit or the level (0 reduced, 1 normal, 2 tightened, 3 discontinued).
+#[inline]
 pub fn lot(store: &mut [u8], stream: u32, label: u32, size: u32, sample: u32, wrong: u32, wrong_in_all: u32) -> Answer {
     unsafe {
         c::listening_lot(
@@ -90,33 +92,39 @@ pub fn lot(store: &mut [u8], stream: u32, label: u32, size: u32, sample: u32, wr
 
 /// Enters a run in screening: `right` detections, then a wrong one where `wrong` is 1. Gives what is accepted, and the phase (0
 /// screening, 1 sampling).
+#[inline]
 pub fn run(store: &mut [u8], stream: u32, right: u32, wrong: u32) -> Answer {
     unsafe { c::listening_run(store.as_mut_ptr(), store.len(), stream, right, wrong) }
 }
 
 /// Enters a block in sampling, of which the detection at place `heard` was heard. Gives what is accepted, how many to hear back, and
 /// the phase.
+#[inline]
 pub fn block(store: &mut [u8], stream: u32, heard: u32, wrong: u32) -> Answer {
     unsafe { c::listening_block(store.as_mut_ptr(), store.len(), stream, heard, wrong) }
 }
 
 /// Enters a stop: `why` 1 a pause of so many days, 2 the set-up changed.
+#[inline]
 pub fn stop(store: &mut [u8], stream: u32, why: u32, days: u32) -> Answer {
     unsafe { c::listening_stop(store.as_mut_ptr(), store.len(), stream, why, days) }
 }
 
 /// Takes the newest entry back. Gives its kind: 1 lot, 2 run, 3 block, 4 stop.
+#[inline]
 pub fn back(store: &mut [u8], stream: u32) -> Answer {
     unsafe { c::listening_back(store.as_mut_ptr(), store.len(), stream) }
 }
 
 /// Gives the sample that a lot of this size asks for.
+#[inline]
 pub fn ask(store: &[u8], stream: u32, size: u32) -> Answer {
     unsafe { c::listening_ask(store.as_ptr(), store.len(), stream, size) }
 }
 
 /// Gives the count of standing entries, what is accepted in all, and the credit, the level or the screening count; in sampling 65,536
 /// plus what has passed since the last detection heard.
+#[inline]
 pub fn read(store: &[u8], stream: u32) -> Answer {
     unsafe { c::listening_read(store.as_ptr(), store.len(), stream) }
 }
@@ -124,6 +132,7 @@ pub fn read(store: &[u8], stream: u32) -> Answer {
 /// Makes a list of calls, seven numbers each, and writes the answers, four numbers each. False, and nothing made or written, where the
 /// numbers are not whole calls, a call does not exist or has an argument too many, or the room for answers is not exactly that of the
 /// calls. A refused call is no such case.
+#[inline]
 pub fn list(store: &mut [u8], calls: &[u32], answers: &mut [u32]) -> bool {
     unsafe {
         c::listening_list(
