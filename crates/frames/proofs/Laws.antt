@@ -13,10 +13,11 @@ use mir.Val.{toZ, ofZ, SFits}
 use mir.ValLaws.{toZ-ofZ}
 use Rattle.libc.specs.Io.{Moved}
 use Rattle.io.specs.Counts.{clamped}
+use Rattle.model.specs.Store.{fresh}
 use Rattle.model.proofs.Booleans.{both-true, never-both}
-use Rattle.frame_text.specs.Feeding.{Unfinished, begun, afterBytes}
+use Rattle.frame_text.specs.Feeding.{Unfinished, begun, afterBytes, atEnd}
 use Rattle.frame_text.proofs.Feeding.{fed-in-pieces}
-use Rattle.feeding.specs.Fed.{fresh, held, storeAtEnd}
+use Rattle.feeding.specs.Fed.{held}
 use Rattle.frames.specs.declared.Turn.{Turn}
 use Rattle.frames.specs.Turns.{FedTurn, LastTurn, FailedTurn, TurnTaken, storeAfterInput}
 
@@ -80,7 +81,7 @@ unfolding storeAfterInput TurnTaken
 turn-more store line out have piece (pos zero) r store′ line′ out′ going whole written on so last =
     let state = so .2 on in (
       so .0,
-      rw (last .whole) (last .finished .made ∙ ap (λ (u : Unfinished). storeAtEnd (u .store) (u .line)) state),
+      rw (last .whole) (last .finished .made ∙ ap (λ (u : Unfinished). atEnd u .store) state ∙ fed-in-pieces .wholeStore (so .0)),
       λ e. absurd (never-both (r .going) (both-true (r .going) written e .0) (last .going)),
     )
 turn-more store line out have piece (pos (suc k)) r store′ line′ out′ going whole written on so turn =

@@ -5,8 +5,11 @@ use mathlib.Core.Bool.{Bool, true, false}
 use mathlib.Core.List.{List}
 use lib.IntN.{ℤ, pos, negsuc}
 use lib.ListN.{length, take}
-use Rattle.frame_text.specs.Feeding.{begun, afterBytes}
-use Rattle.feeding.specs.Fed.{lineRoom, textLength, held, storeAtEnd, FedBy, Finished}
+use Rattle.model.specs.Store.{fresh}
+use Rattle.frame_text.specs.Answers.{textLength}
+use Rattle.frame_text.specs.Program.{lines, storeFrom}
+use Rattle.frame_text.specs.Feeding.{begun, lineRoom, afterBytes}
+use Rattle.feeding.specs.Fed.{held, FedBy, Finished}
 use Rattle.frames.specs.declared.Turn.{Turn}
 use Rattle.frames.specs.declared.Ended.{Ended}
 
@@ -43,7 +46,7 @@ TurnTaken store line out have piece (negsuc k) r store′ line′ out′ = Faile
 
 -- the store after an input that came to its end, or after as much of one as came
 unfoldable pub storeAfterInput : Bool → List ℕ → List ℕ
-storeAfterInput true input = storeAtEnd (afterBytes begun input .store) (afterBytes begun input .line)
+storeAfterInput true input = storeFrom fresh (lines input)
 storeAfterInput false input = afterBytes begun input .store
 
 -- some input came, and its calls were made

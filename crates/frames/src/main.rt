@@ -4,7 +4,8 @@ ghost use mathlib.Core.Path.{_≡_};
 ghost use Prim.Native.Nat.{_≤_};
 ghost use lib.ListN.{length};
 ghost use Rattle.libc.specs.Io.{Moved};
-ghost use Rattle.feeding.specs.Fed.{fresh, lineRoom};
+ghost use Rattle.model.specs.Store.{fresh};
+ghost use Rattle.frame_text.specs.Feeding.{lineRoom};
 ghost use Rattle.frames.specs.Turns.{Lent, TurnTaken, Ran};
 use libc::STDERR_FILENO;
 use libc::STDIN_FILENO;
@@ -14,7 +15,7 @@ use libc::STDOUT_FILENO;
 const PIECE_LENGTH: usize = 16384;
 
 // Room for the text of a whole piece, since no byte prints more than a line.
-const OUT_LENGTH: usize = feeding::TEXT_LENGTH * PIECE_LENGTH;
+const OUT_LENGTH: usize = frame_text::TEXT_LENGTH * PIECE_LENGTH;
 
 // What a turn leaves: how many bytes the unfinished line has, how many bytes of text are to be printed, whether there may be more
 // input, and whether it came to its end.
@@ -32,7 +33,7 @@ struct Ended {
 }
 
 fn main() {
-    let mut store = [0u8; feeding::STORE_LENGTH];
+    let mut store = [0u8; listening::STORE_LENGTH];
     let mut line = [0u8; feeding::LINE_ROOM];
     let mut piece = [0u8; PIECE_LENGTH];
     let mut out = [0u8; OUT_LENGTH];

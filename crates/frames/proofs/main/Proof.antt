@@ -1,6 +1,6 @@
 use mathlib.Core.Path.{refl}
 use lib.Dec.{lit≤}
-use Rattle.feeding.specs.Fed.{fresh}
+use Rattle.model.specs.Store.{fresh}
 use borrow.Author.Needs.{needs}
 use Rattle.frames.proofs.main.Statement.{statement}
 use Rattle.frames.proofs.main.Tie as tie

@@ -9,7 +9,7 @@ use mir.Syntax.{w64}
 use mir.ValLaws.{toZ-ofZ}
 use borrow.Author.Needs.{needs}
 use Rattle.libc.specs.Io.{Moved}
-use Rattle.feeding.specs.Fed.{lineRoom}
+use Rattle.frame_text.specs.Feeding.{lineRoom}
 use Rattle.frames.proofs.Laws.{Progress, no-turn, turn-more}
 use Rattle.frames.proofs.run.Statement.{statement}
 use Rattle.frames.proofs.run.Tie as tie
