@@ -33,29 +33,29 @@ use Rattle.frame_text.specs.Claims.{FedInPieces}
 use Rattle.frame_text.proofs.Laws.{digit-range}
 
 -- the bytes of an unfinished line before the lines that follow
-abbrev joined : List ℕ → List (List ℕ) → List (List ℕ)
-joined [] rest = rest
-joined (b ∷ line) rest = before b (joined line rest)
+abbrev allBefore : List ℕ → List (List ℕ) → List (List ℕ)
+allBefore [] rest = rest
+allBefore (b ∷ line) rest = before b (allBefore line rest)
 
-joined-byte : (line : List ℕ) (b : ℕ) (rest : List (List ℕ)) → joined line (before b rest) ≡ joined (line ++ (b ∷ [])) rest
-joined-byte [] b rest = refl
-joined-byte (a ∷ line) b rest = ap (before a) (joined-byte line b rest)
+all-before-byte : (line : List ℕ) (b : ℕ) (rest : List (List ℕ)) → allBefore line (before b rest) ≡ allBefore (line ++ (b ∷ [])) rest
+all-before-byte [] b rest = refl
+all-before-byte (a ∷ line) b rest = ap (before a) (all-before-byte line b rest)
 
-joined-end : (line : List ℕ) (rest : List (List ℕ)) → joined line ([] ∷ rest) ≡ line ∷ rest
+all-before-end : (line : List ℕ) (rest : List (List ℕ)) → allBefore line ([] ∷ rest) ≡ line ∷ rest
 unfolding before
-joined-end [] rest = refl
-joined-end (a ∷ line) rest = ap (before a) (joined-end line rest)
+all-before-end [] rest = refl
+all-before-end (a ∷ line) rest = ap (before a) (all-before-end line rest)
 
-joined-last : (b : ℕ) (line : List ℕ) → joined (b ∷ line) [] ≡ (b ∷ line) ∷ []
+all-before-last : (b : ℕ) (line : List ℕ) → allBefore (b ∷ line) [] ≡ (b ∷ line) ∷ []
 unfolding before
-joined-last b [] = refl
-joined-last b (a ∷ line) = ap (before b) (joined-last a line)
+all-before-last b [] = refl
+all-before-last b (a ∷ line) = ap (before b) (all-before-last a line)
 
 at-end : (store line : List ℕ)
-    → (lastLine store line .text ≡ outputFrom store (joined line [])) × (lastLine store line .store ≡ storeFrom store (joined line []))
+    → (lastLine store line .text ≡ outputFrom store (allBefore line [])) × (lastLine store line .store ≡ storeFrom store (allBefore line []))
 unfolding lastLine outputFrom storeFrom
 at-end store [] = (refl, refl)
-at-end store (b ∷ line) = rw (joined-last b line) (sym (append-nil _), refl)
+at-end store (b ∷ line) = rw (all-before-last b line) (sym (append-nil _), refl)
 
 -- ---- a line too long, of which not every byte is kept
 
@@ -106,13 +106,13 @@ FedAs u bytes store ls =
     (printedBy u bytes ++ atEnd (afterBytes u bytes) .text ≡ outputFrom store ls)
     × (atEnd (afterBytes u bytes) .store ≡ storeFrom store ls)
 
-feeding : (bytes store line some : List ℕ) → Alike line some
-    → FedAs (record { store = store; line = some }) bytes store (joined line (lines bytes))
+fed-as-lines : (bytes store line some : List ℕ) → Alike line some
+    → FedAs (record { store = store; line = some }) bytes store (allBefore line (lines bytes))
 unfolding printedBy afterBytes afterByte printedAt atEnd lines outputFrom storeFrom
-feeding [] store line some alike = rw (← end-alike store line some alike) (at-end store line)
-feeding (b ∷ bytes) store line some alike =
-    next (eqb b lineFeed) (feeding bytes (onLine store some .store) [] [] (inl refl))
-    (feeding bytes store (line ++ (b ∷ [])) (kept some b) (kept-alike line some b alike))
+fed-as-lines [] store line some alike = rw (← end-alike store line some alike) (at-end store line)
+fed-as-lines (b ∷ bytes) store line some alike =
+    next (eqb b lineFeed) (fed-as-lines bytes (onLine store some .store) [] [] (inl refl))
+    (fed-as-lines bytes store (line ++ (b ∷ [])) (kept some b) (kept-alike line some b alike))
   where
     ended : Unfinished
     ended = record { store = onLine store some .store; line = [] }
@@ -121,17 +121,17 @@ feeding (b ∷ bytes) store line some alike =
     going = record { store = store; line = kept some b }
 
     next : (t : Bool) → FedAs ended bytes (onLine store some .store) (lines bytes)
-        → FedAs going bytes store (joined (line ++ (b ∷ [])) (lines bytes))
+        → FedAs going bytes store (allBefore (line ++ (b ∷ [])) (lines bytes))
         → (cond t (onLine store some .text) [] ++ printedBy (cond t ended going) bytes ++ atEnd (afterBytes (cond t ended going) bytes) .text
-        ≡ outputFrom store (joined line (cond t ([] ∷ lines bytes) (before b (lines bytes)))))
-        × (atEnd (afterBytes (cond t ended going) bytes) .store ≡ storeFrom store (joined line (cond t ([] ∷ lines bytes) (before b (lines bytes)))))
+        ≡ outputFrom store (allBefore line (cond t ([] ∷ lines bytes) (before b (lines bytes)))))
+        × (atEnd (afterBytes (cond t ended going) bytes) .store ≡ storeFrom store (allBefore line (cond t ([] ∷ lines bytes) (before b (lines bytes)))))
     next true whenEnded whenGoing = (
-      rw (append-assoc (onLine store some .text), whenEnded .0, joined-end line (lines bytes), line-alike store line some alike),
+      rw (append-assoc (onLine store some .text), whenEnded .0, all-before-end line (lines bytes), line-alike store line some alike),
       whenEnded .1
           ∙ ap (λ (o : LineOutcome). storeFrom (o .store) (lines bytes)) (sym (line-alike store line some alike))
-          ∙ ap (storeFrom store) (sym (joined-end line (lines bytes))),
+          ∙ ap (storeFrom store) (sym (all-before-end line (lines bytes))),
     )
-    next false whenEnded whenGoing = rw (joined-byte line b (lines bytes)) whenGoing
+    next false whenEnded whenGoing = rw (all-before-byte line b (lines bytes)) whenGoing
 
 -- ---- pieces
 
@@ -207,8 +207,8 @@ pub fed-in-pieces : FedInPieces
 unfolding begun output
 fed-in-pieces =
     record {
-      whole = λ input. feeding input fresh [] [] (inl refl) .0;
-      wholeStore = λ input. feeding input fresh [] [] (inl refl) .1;
+      whole = λ input. fed-as-lines input fresh [] [] (inl refl) .0;
+      wholeStore = λ input. fed-as-lines input fresh [] [] (inl refl) .1;
       cutState = cut-state;
       cutText = cut-text;
       shortLine = short-line;

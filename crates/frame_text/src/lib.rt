@@ -200,7 +200,7 @@ fn word_at(line: &[u8], at: usize) -> u32
     let ones = (text & 0x0f0f_0f0f_0f0f_0f0f) + ((text / 64) & 0x0101_0101_0101_0101) * 9;
     let twos = (ones * 16 + ones / 256) & 0x00ff_00ff_00ff_00ff;
     let fours = (twos * 256 + twos / 65536) & 0x0000_ffff_0000_ffff;
-    ((fours * 65536 + fours / 4294967296) & 0xffff_ffff) as u32
+    ((fours * 65536 + fours / 4294967296) % 4294967296) as u32
 }
 
 // Writes the eight digits of n into out from index `at` on.
