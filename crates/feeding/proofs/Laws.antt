@@ -18,17 +18,18 @@ use Rattle.model.specs.Claims.{on}
 use Rattle.model.proofs.Booleans.{never-both}
 use Rattle.frame_text.specs.declared.Frame.the-variants.{Made, Bad}
 use Rattle.frame_text.specs.Frames.{frameLength, frameOf}
-use Rattle.frame_text.specs.Answers.{lineFeed, answerText, badText}
+use Rattle.frame_text.specs.Answers.{lineFeed, textLength, badLength, answerText, badText}
 use Rattle.frame_text.specs.Program.{onFrame, onLine, LineOutcome}
 use Rattle.frame_text.specs.Feeding.{
   Unfinished,
   begun,
+  lineRoom,
   kept,
   afterByte,
   printedAt,
   afterBytes,
   printedBy,
-  printedAtEnd,
+  lastLine,
   atEnd,
 }
 use Rattle.frame_text.proofs.Laws.{length-answer, length-bad}
@@ -36,10 +37,7 @@ use Rattle.frame_text.proofs.Feeding.{frame-line, frame-digits, fed-in-pieces}
 use Rattle.feeding.specs.declared.Fed.{Fed}
 use Rattle.feeding.specs.declared.Taken.{Taken}
 use Rattle.feeding.specs.Fed.{
-  lineRoom,
-  textLength,
   held,
-  storeAtEnd,
   LineEnded,
   FrameMade,
   BytesTaken,
@@ -98,7 +96,7 @@ frame-none store line out at frame =
 pub bad-line : (store line out : List ℕ) (at : ℕ) (r : Bool) (store′ out₁ out′ : List ℕ)
     → FrameMade store line out at r store′ out₁ → r ≡ false
     → out′ ≡ written at badText out₁
-    → LineEnded store line out at 3 store′ out′
+    → LineEnded store line out at badLength store′ out′
 unfolding onLine onFrame
 bad-line store line out at r store′ out₁ out′ tried none text =
     let frame : frameOf line ≡ Bad = tried .bad none in
@@ -297,18 +295,13 @@ fed-next u piece first store line out i have wrote fed fits r store′ line′ o
 
 -- ---- the end of the input
 
-at-end-line : (store line : List ℕ) → 0 < length line → printedAtEnd store line ≡ onLine store line .text
-unfolding printedAtEnd
-at-end-line store [] h = absurd (let never : ⊥ = omega arith in never)
-at-end-line store (b ∷ line) h = refl
-
-store-at-end-line : (store line : List ℕ) → 0 < length line → storeAtEnd store line ≡ onLine store line .store
-unfolding storeAtEnd
-store-at-end-line store [] h = absurd (let never : ⊥ = omega arith in never)
-store-at-end-line store (b ∷ line) h = refl
+some-last : (store line : List ℕ) → 0 < length line → lastLine store line ≡ onLine store line
+unfolding lastLine
+some-last store [] h = absurd (let never : ⊥ = omega arith in never)
+some-last store (b ∷ line) h = refl
 
 pub nothing-left : (store line out : List ℕ) (have : ℕ) → have ≡ 0 → Finished (held store line have) out 0 store out
-unfolding atEnd printedAtEnd storeAtEnd
+unfolding atEnd lastLine
 nothing-left store line out have none =
     rw none (record { made = refl; text = refl; behind = refl; small = omega arith })
 
@@ -324,8 +317,8 @@ last-line store line out have wrote store′ out′ some inside fits ended =
     let small : 0 + length t ≤ length out = omega (arith, ended .count, ended .small) in
     let place : wrote ≡ 0 + length t = omega (arith, ended .count) in
     record {
-      made = ended .made ∙ sym (store-at-end-line store (take have line) lasting);
-      text = rw (place, ended .text, take-text 0 t out small, at-end-line store (take have line) lasting);
+      made = rw (some-last store (take have line) lasting) (ended .made);
+      text = rw (place, ended .text, take-text 0 t out small, some-last store (take have line) lasting);
       behind = rw (place, ended .text) (behind-both 0 t out small out refl);
       small = ended .small;
     }
@@ -349,5 +342,6 @@ fed-whole store line input out fed store′ line′ out′ part wrote store″ o
       inside = simp (length-append, counted) (omega arith);
       made =
           finished .made
-          ∙ ap (λ (v : Unfinished). storeAtEnd (v .store) (v .line)) (by .state ∙ ap (λ (v : Unfinished). afterBytes v input) start);
+          ∙ ap (λ (v : Unfinished). atEnd v .store) (by .state ∙ ap (λ (v : Unfinished). afterBytes v input) start)
+          ∙ fed-in-pieces .wholeStore input;
     }

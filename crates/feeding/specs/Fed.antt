@@ -2,36 +2,23 @@
 use Prim.Native.Nat.{ℕ, _+_, _-_, _*_, _≤_, _<_}
 use mathlib.Core.Path.{_≡_}
 use mathlib.Core.Bool.{Bool, true, false}
-use mathlib.Core.List.{List, [], _∷_}
+use mathlib.Core.List.{List}
 use lib.Dec.{T}
 use lib.ListN.{length, take, drop}
 use Rattle.little.specs.Little.{part, written}
+use Rattle.model.specs.Store.{fresh}
 use Rattle.frame_text.specs.declared.Frame.the-variants.{Bad}
 use Rattle.frame_text.specs.Digits.{allDigits}
 use Rattle.frame_text.specs.Frames.{frameLength, frameOf}
-use Rattle.frame_text.specs.Program.{onLine, output}
-use Rattle.frame_text.specs.Feeding.{Unfinished, begun, afterBytes, printedBy, atEnd}
+use Rattle.frame_text.specs.Answers.{textLength}
+use Rattle.frame_text.specs.Program.{onLine, lines, output, storeFrom}
+use Rattle.frame_text.specs.Feeding.{Unfinished, lineRoom, afterBytes, printedBy, atEnd}
 use Rattle.feeding.specs.declared.Fed.{Fed}
 use Rattle.feeding.specs.declared.Taken.{Taken}
--- passed on to the program, whose store begins all zero
-unfoldable pub use Rattle.model.specs.Store.{fresh}
-
--- 45 bytes: what is kept of a line, which is one byte more than a frame has
-abbrev pub lineRoom : ℕ
-lineRoom = frameLength + 1
-
--- the longest text of a line: 26 digits and a line feed
-abbrev pub textLength : ℕ
-textLength = 27
 
 -- a store, and the unfinished line in the first `have` bytes of a line buffer
 abbrev pub held : List ℕ → List ℕ → ℕ → Unfinished
 held store line have = record { store = store; line = take have line }
-
--- the store after the end of the input, which ends a line if there are bytes of one
-unfoldable pub storeAtEnd : List ℕ → List ℕ → List ℕ
-storeAtEnd store [] = store
-storeAtEnd store (b ∷ bs) = onLine store (b ∷ bs) .store
 
 -- a line ended: its call is made, and its text stands in a buffer from index `at` on
 pub record LineEnded (store line out : List ℕ) (at wrote : ℕ) (store′ out′ : List ℕ) : Type 0 where
@@ -83,13 +70,13 @@ pub record FedBy (u : Unfinished) (bytes out : List ℕ) (r : Fed) (store′ lin
 
 -- the input ended: the last line's call is made if there are bytes of one, and its text stands in front of the text buffer
 pub record Finished (u : Unfinished) (out : List ℕ) (wrote : ℕ) (store′ out′ : List ℕ) : Type 0 where
-  pub made : store′ ≡ storeAtEnd (u .store) (u .line)
-  pub text : take wrote out′ ≡ atEnd u
+  pub made : store′ ≡ atEnd u .store
+  pub text : take wrote out′ ≡ atEnd u .text
   pub behind : drop wrote out′ ≡ drop wrote out
   pub small : wrote ≤ textLength
 
--- a whole input was fed over a fresh store: the buffer's first r bytes are the program's output
+-- a whole input was fed over a fresh store: the buffer's first r bytes are the program's output, and the calls of its lines are made
 pub record AllFed (input : List ℕ) (r : ℕ) (store′ out′ : List ℕ) : Type 0 where
   pub text : take r out′ ≡ output input
   pub inside : r ≤ length out′
-  pub made : store′ ≡ storeAtEnd (afterBytes begun input .store) (afterBytes begun input .line)
+  pub made : store′ ≡ storeFrom fresh (lines input)

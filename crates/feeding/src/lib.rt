@@ -7,9 +7,14 @@ ghost use mathlib.Core.List.{[], _∷_};
 ghost use Prim.Native.Nat.{_+_, _*_, _≤_, _<_};
 ghost use lib.ListN.{length, take};
 ghost use Rattle.model.specs.Store.{fresh};
-ghost use Rattle.frame_text.specs.Feeding.{kept};
-ghost use Rattle.feeding.specs.Fed.{lineRoom, textLength, held, FrameMade, LineEnded, BytesTaken, FrameTaken, SomeTaken, FedBy, Finished, AllFed};
+ghost use Rattle.frame_text.specs.Answers.{textLength};
+ghost use Rattle.frame_text.specs.Feeding.{lineRoom, kept};
+ghost use Rattle.feeding.specs.Fed.{held, FrameMade, LineEnded, BytesTaken, FrameTaken, SomeTaken, FedBy, Finished, AllFed};
+use frame_text::BAD_LENGTH;
+use frame_text::FRAME_LENGTH;
 use frame_text::Frame;
+use frame_text::LINE_FEED;
+use frame_text::TEXT_LENGTH;
 
 // How many bytes the unfinished line has, and how many bytes of text were written.
 pub struct Fed {
@@ -24,18 +29,8 @@ struct Taken {
     next: usize,
 }
 
-// 41,728
-pub const STORE_LENGTH: usize = listening::STORE_LENGTH;
-
-// A frame's 44 digits and one byte more: a longer line is bad however it goes on.
-pub const LINE_ROOM: usize = 45;
-
-// The longest text of a line: 26 digits and a line feed. No byte of input prints more.
-pub const TEXT_LENGTH: usize = 27;
-
-const BAD_LENGTH: usize = 3;
-
-const LINE_FEED: u8 = 10;
+// What is kept of a line: a frame's digits and one byte more, since a longer line is bad however it goes on.
+pub const LINE_ROOM: usize = FRAME_LENGTH + 1;
 
 // Feeds a piece. The unfinished line is the first `have` bytes of `line`, and the text goes to the front of `out`.
 pub fn feed(store: &mut [u8], line: &mut [u8], have: usize, piece: &[u8], out: &mut [u8]) -> Fed
@@ -123,7 +118,7 @@ fn take_frame(
     if piece.len() - i < LINE_ROOM {
         return false;
     }
-    let end = i + frame_text::FRAME_LENGTH;
+    let end = i + FRAME_LENGTH;
     if piece[end] != LINE_FEED {
         return false;
     }

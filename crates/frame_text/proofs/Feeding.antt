@@ -16,44 +16,46 @@ use Rattle.frame_text.specs.declared.Frame.the-variants.{Made, Bad}
 use Rattle.frame_text.specs.Digits.{digit, allDigits}
 use Rattle.frame_text.specs.Frames.{frameLength, frameOf}
 use Rattle.frame_text.specs.Answers.{lineFeed}
-use Rattle.frame_text.specs.Program.{before, lines, onLine, LineOutcome, outputFrom, output}
+use Rattle.frame_text.specs.Program.{before, lines, onLine, LineOutcome, outputFrom, output, storeFrom}
 use Rattle.frame_text.specs.Feeding.{
   Unfinished,
   begun,
+  lineRoom,
   kept,
   afterByte,
   printedAt,
   afterBytes,
   printedBy,
-  printedAtEnd,
+  lastLine,
   atEnd,
 }
 use Rattle.frame_text.specs.Claims.{FedInPieces}
 use Rattle.frame_text.proofs.Laws.{digit-range}
 
 -- the bytes of an unfinished line before the lines that follow
-abbrev joined : List ℕ → List (List ℕ) → List (List ℕ)
-joined [] rest = rest
-joined (b ∷ line) rest = before b (joined line rest)
+abbrev allBefore : List ℕ → List (List ℕ) → List (List ℕ)
+allBefore [] rest = rest
+allBefore (b ∷ line) rest = before b (allBefore line rest)
 
-joined-byte : (line : List ℕ) (b : ℕ) (rest : List (List ℕ)) → joined line (before b rest) ≡ joined (line ++ (b ∷ [])) rest
-joined-byte [] b rest = refl
-joined-byte (a ∷ line) b rest = ap (before a) (joined-byte line b rest)
+all-before-byte : (line : List ℕ) (b : ℕ) (rest : List (List ℕ)) → allBefore line (before b rest) ≡ allBefore (line ++ (b ∷ [])) rest
+all-before-byte [] b rest = refl
+all-before-byte (a ∷ line) b rest = ap (before a) (all-before-byte line b rest)
 
-joined-end : (line : List ℕ) (rest : List (List ℕ)) → joined line ([] ∷ rest) ≡ line ∷ rest
+all-before-end : (line : List ℕ) (rest : List (List ℕ)) → allBefore line ([] ∷ rest) ≡ line ∷ rest
 unfolding before
-joined-end [] rest = refl
-joined-end (a ∷ line) rest = ap (before a) (joined-end line rest)
+all-before-end [] rest = refl
+all-before-end (a ∷ line) rest = ap (before a) (all-before-end line rest)
 
-joined-last : (b : ℕ) (line : List ℕ) → joined (b ∷ line) [] ≡ (b ∷ line) ∷ []
+all-before-last : (b : ℕ) (line : List ℕ) → allBefore (b ∷ line) [] ≡ (b ∷ line) ∷ []
 unfolding before
-joined-last b [] = refl
-joined-last b (a ∷ line) = ap (before b) (joined-last a line)
+all-before-last b [] = refl
+all-before-last b (a ∷ line) = ap (before b) (all-before-last a line)
 
-at-end : (store line : List ℕ) → printedAtEnd store line ≡ outputFrom store (joined line [])
-unfolding printedAtEnd outputFrom
-at-end store [] = refl
-at-end store (b ∷ line) = rw (joined-last b line) (sym (append-nil _))
+at-end : (store line : List ℕ)
+    → (lastLine store line .text ≡ outputFrom store (allBefore line [])) × (lastLine store line .store ≡ storeFrom store (allBefore line []))
+unfolding lastLine outputFrom storeFrom
+at-end store [] = (refl, refl)
+at-end store (b ∷ line) = rw (all-before-last b line) (sym (append-nil _), refl)
 
 -- ---- a line too long, of which not every byte is kept
 
@@ -76,13 +78,12 @@ line-alike : (store line some : List ℕ) → Alike line some → onLine store l
 line-alike store line some (inl e) = ap (onLine store) e
 line-alike store line some (inr h) = too-long-alike store line some (h .0) (h .1)
 
-end-alike : (store line some : List ℕ) → Alike line some → printedAtEnd store line ≡ printedAtEnd store some
-unfolding printedAtEnd
-end-alike store line some (inl e) = ap (printedAtEnd store) e
+end-alike : (store line some : List ℕ) → Alike line some → lastLine store line ≡ lastLine store some
+unfolding lastLine
+end-alike store line some (inl e) = ap (lastLine store) e
 end-alike store [] some (inr h) = absurd (let never : ⊥ = omega arith in never)
 end-alike store (a ∷ line) [] (inr h) = absurd (let never : ⊥ = omega arith in never)
-end-alike store (a ∷ line) (b ∷ some) (inr h) =
-    ap (λ (o : LineOutcome). o .text) (too-long-alike store (a ∷ line) (b ∷ some) (h .0) (h .1))
+end-alike store (a ∷ line) (b ∷ some) (inr h) = too-long-alike store (a ∷ line) (b ∷ some) (h .0) (h .1)
 
 kept-alike : (line some : List ℕ) (b : ℕ) → Alike line some → Alike (line ++ (b ∷ [])) (kept some b)
 unfolding kept
@@ -99,14 +100,19 @@ kept-alike line some b alike = go (leb (length some) frameLength) refl alike
 
 -- ---- the whole
 
-feeding : (bytes store line some : List ℕ) → Alike line some
-    → printedBy (record { store = store; line = some }) bytes ++ atEnd (afterBytes (record { store = store; line = some }) bytes)
-    ≡ outputFrom store (joined line (lines bytes))
-unfolding printedBy afterBytes afterByte printedAt atEnd lines outputFrom
-feeding [] store line some alike = sym (end-alike store line some alike) ∙ at-end store line
-feeding (b ∷ bytes) store line some alike =
-    next (eqb b lineFeed) (feeding bytes (onLine store some .store) [] [] (inl refl))
-    (feeding bytes store (line ++ (b ∷ [])) (kept some b) (kept-alike line some b alike))
+-- bytes and the end of the input print what some lines print, and leave the store that they leave
+abbrev FedAs : Unfinished → List ℕ → List ℕ → List (List ℕ) → Type 0
+FedAs u bytes store ls =
+    (printedBy u bytes ++ atEnd (afterBytes u bytes) .text ≡ outputFrom store ls)
+    × (atEnd (afterBytes u bytes) .store ≡ storeFrom store ls)
+
+fed-as-lines : (bytes store line some : List ℕ) → Alike line some
+    → FedAs (record { store = store; line = some }) bytes store (allBefore line (lines bytes))
+unfolding printedBy afterBytes afterByte printedAt atEnd lines outputFrom storeFrom
+fed-as-lines [] store line some alike = rw (← end-alike store line some alike) (at-end store line)
+fed-as-lines (b ∷ bytes) store line some alike =
+    next (eqb b lineFeed) (fed-as-lines bytes (onLine store some .store) [] [] (inl refl))
+    (fed-as-lines bytes store (line ++ (b ∷ [])) (kept some b) (kept-alike line some b alike))
   where
     ended : Unfinished
     ended = record { store = onLine store some .store; line = [] }
@@ -114,13 +120,18 @@ feeding (b ∷ bytes) store line some alike =
     going : Unfinished
     going = record { store = store; line = kept some b }
 
-    next : (t : Bool) → printedBy ended bytes ++ atEnd (afterBytes ended bytes) ≡ outputFrom (onLine store some .store) (lines bytes)
-        → printedBy going bytes ++ atEnd (afterBytes going bytes) ≡ outputFrom store (joined (line ++ (b ∷ [])) (lines bytes))
-        → cond t (onLine store some .text) [] ++ printedBy (cond t ended going) bytes ++ atEnd (afterBytes (cond t ended going) bytes)
-        ≡ outputFrom store (joined line (cond t ([] ∷ lines bytes) (before b (lines bytes))))
-    next true whenEnded whenGoing =
-        rw (append-assoc (onLine store some .text), whenEnded, joined-end line (lines bytes), line-alike store line some alike)
-    next false whenEnded whenGoing = rw (joined-byte line b (lines bytes)) whenGoing
+    next : (t : Bool) → FedAs ended bytes (onLine store some .store) (lines bytes)
+        → FedAs going bytes store (allBefore (line ++ (b ∷ [])) (lines bytes))
+        → (cond t (onLine store some .text) [] ++ printedBy (cond t ended going) bytes ++ atEnd (afterBytes (cond t ended going) bytes) .text
+        ≡ outputFrom store (allBefore line (cond t ([] ∷ lines bytes) (before b (lines bytes)))))
+        × (atEnd (afterBytes (cond t ended going) bytes) .store ≡ storeFrom store (allBefore line (cond t ([] ∷ lines bytes) (before b (lines bytes)))))
+    next true whenEnded whenGoing = (
+      rw (append-assoc (onLine store some .text), whenEnded .0, all-before-end line (lines bytes), line-alike store line some alike),
+      whenEnded .1
+          ∙ ap (λ (o : LineOutcome). storeFrom (o .store) (lines bytes)) (sym (line-alike store line some alike))
+          ∙ ap (storeFrom store) (sym (all-before-end line (lines bytes))),
+    )
+    next false whenEnded whenGoing = rw (all-before-byte line b (lines bytes)) whenGoing
 
 -- ---- pieces
 
@@ -134,20 +145,20 @@ unfolding afterBytes printedBy
 cut-text u [] ys = refl
 cut-text u (b ∷ xs) ys = rw (cut-text (afterByte u b) xs ys) (sym (append-assoc (printedAt u b) _ _))
 
-short-kept : (line : List ℕ) (b : ℕ) → length line ≤ frameLength + 1 → length (kept line b) ≤ frameLength + 1
+short-kept : (line : List ℕ) (b : ℕ) → length line ≤ lineRoom → length (kept line b) ≤ lineRoom
 unfolding kept
 short-kept line b h = go (leb (length line) frameLength) refl
   where
-    go : (t : Bool) → leb (length line) frameLength ≡ t → length (cond t (line ++ (b ∷ [])) line) ≤ frameLength + 1
+    go : (t : Bool) → leb (length line) frameLength ≡ t → length (cond t (line ++ (b ∷ [])) line) ≤ lineRoom
     go true e = rw length-append (omega (arith, leb-true (length line) frameLength e))
     go false e = h
 
-short-line : (u : Unfinished) (bytes : List ℕ) → length (u .line) ≤ frameLength + 1 → length (afterBytes u bytes .line) ≤ frameLength + 1
+short-line : (u : Unfinished) (bytes : List ℕ) → length (u .line) ≤ lineRoom → length (afterBytes u bytes .line) ≤ lineRoom
 unfolding afterBytes afterByte
 short-line u [] h = h
 short-line u (b ∷ bytes) h = short-line (afterByte u b) bytes (go (eqb b lineFeed))
   where
-    go : (t : Bool) → length (cond {A = Unfinished} t (record { store = onLine (u .store) (u .line) .store; line = [] }) (record { store = u .store; line = kept (u .line) b }) .line) ≤ frameLength + 1
+    go : (t : Bool) → length (cond {A = Unfinished} t (record { store = onLine (u .store) (u .line) .store; line = [] }) (record { store = u .store; line = kept (u .line) b }) .line) ≤ lineRoom
     go true = omega arith
     go false = short-kept (u .line) b h
 
@@ -196,7 +207,8 @@ pub fed-in-pieces : FedInPieces
 unfolding begun output
 fed-in-pieces =
     record {
-      whole = λ input. feeding input fresh [] [] (inl refl);
+      whole = λ input. fed-as-lines input fresh [] [] (inl refl) .0;
+      wholeStore = λ input. fed-as-lines input fresh [] [] (inl refl) .1;
       cutState = cut-state;
       cutText = cut-text;
       shortLine = short-line;

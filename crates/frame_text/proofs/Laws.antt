@@ -17,7 +17,7 @@ use Rattle.model.specs.Stations.{within}
 use Rattle.model.proofs.Booleans.{both-of, both, holds-of, of-holds, never-both}
 use Rattle.frame_text.specs.Digits.{digit, allDigits, digitValue, digitOf, goneOn, hexValue, digitsOf}
 use Rattle.frame_text.specs.Frames.{frameLength}
-use Rattle.frame_text.specs.Answers.{answerText, badText}
+use Rattle.frame_text.specs.Answers.{textLength, badLength, answerText, badText}
 use Rattle.frame_text.specs.Claims.{ReadAsWritten}
 
 -- ---- digits
@@ -124,11 +124,11 @@ length-digits (suc k) n = rw (length-append, length-digits k (n / 16)) (omega ar
 
 -- ---- an answer's line
 
-pub length-answer : (r : Answer) → length (answerText r) ≡ 27
+pub length-answer : (r : Answer) → length (answerText r) ≡ textLength
 unfolding answerText
 length-answer r = simp (length-append, length-digits)
 
-pub length-bad : length badText ≡ 3
+pub length-bad : length badText ≡ badLength
 unfolding badText
 length-bad = refl
 

@@ -6,7 +6,7 @@ use mathlib.Core.List.{List, [], _∷_, _++_}
 use Prim.Native.Nat.{ℕ, zero, suc, _+_, _*_, _/_, _%_, _^_, _≤_, _<_}
 use native.Mathlib.Omega.{arith}
 use borrow.Author.Tests.{ltb-true, ltb-false, le-leb, lt-leb}
-use lib.Bits.{bitAnd, and-le-r}
+use lib.Bits.{bitAnd, and-le-r, and-mask}
 use lib.Dec.{T, ltb, lit<, lit≤}
 use lib.ListN.{length, drop, length-drop}
 use lib.Seq.{drop-append-le, take-append-le}
@@ -112,7 +112,7 @@ abbrev pub foursIn : ℕ → ℕ
 foursIn x = bitAnd (overlapped 256 65536 (twosIn x)) 0x0000_ffff_0000_ffff
 
 abbrev pub wordIn : ℕ → ℕ
-wordIn x = bitAnd (overlapped 65536 4294967296 (foursIn x)) 0xffff_ffff
+wordIn x = overlapped 65536 4294967296 (foursIn x) % 4294967296
 
 -- a list of eight, element by element
 of-eight : (Goal : List ℕ → Type 0)
@@ -171,6 +171,7 @@ word-in bs long h =
     let twos-below : Below 256 twos = joined-below by4 ones ones-below in
     let fours-below : Below 65536 fours = joined-below by8 twos twos-below in
     let last : length (joined 65536 fours) ≡ 1 = ap length (all .0) in
+    let low : bitAnd (overlapped 65536 4294967296 (foursIn (value bs))) 0xffff_ffff ≡ hexValue bs =
     rw (
       ones-in bs long h,
       join-masked 8 4 by4 ones ones-below (all .2) refl,
@@ -178,7 +179,8 @@ word-in bs long h =
       join-masked 32 1 by16 fours fours-below last refl,
       all .0,
     )
-    (omega arith)
+    (omega arith) in
+    sym (and-mask (overlapped 65536 4294967296 (foursIn (value bs))) 32) ∙ low
 
 -- what each step keeps below
 
@@ -187,9 +189,6 @@ twos-small x = and-le-r (overlapped 16 256 (onesIn x)) 0x00ff_00ff_00ff_00ff
 
 pub fours-small : (x : ℕ) → foursIn x ≤ 0x0000_ffff_0000_ffff
 fours-small x = and-le-r (overlapped 256 65536 (twosIn x)) 0x0000_ffff_0000_ffff
-
-pub word-small : (x : ℕ) → wordIn x ≤ 0xffff_ffff
-word-small x = and-le-r (overlapped 65536 4294967296 (foursIn x)) 0xffff_ffff
 
 -- as word_text computes, from a number to the bytes of its text
 

@@ -1,5 +1,5 @@
 -- The program fed in pieces, byte after byte: its state between two bytes, and what it has printed. Assumes nothing.
-use Prim.Native.Nat.{ℕ}
+use Prim.Native.Nat.{ℕ, _+_}
 use mathlib.Core.Bool.{cond}
 use mathlib.Core.List.{List, [], _∷_, _++_}
 use lib.Dec.{eqb, leb}
@@ -7,7 +7,7 @@ use lib.ListN.{length}
 use Rattle.model.specs.Store.{fresh}
 use Rattle.frame_text.specs.Frames.{frameLength}
 use Rattle.frame_text.specs.Answers.{lineFeed}
-use Rattle.frame_text.specs.Program.{onLine}
+use Rattle.frame_text.specs.Program.{LineOutcome, onLine}
 
 -- the store, and the bytes of a line that has not ended
 pub record Unfinished : Type 0 where
@@ -16,6 +16,10 @@ pub record Unfinished : Type 0 where
 
 unfoldable pub begun : Unfinished
 begun = record { store = fresh; line = [] }
+
+-- 45 bytes: what is kept of a line at the most, which is one byte more than a frame has
+abbrev pub lineRoom : ℕ
+lineRoom = frameLength + 1
 
 -- a line of more than 44 bytes is bad however it goes on: no more of it is kept
 unfoldable pub kept : List ℕ → ℕ → List ℕ
@@ -41,9 +45,9 @@ printedBy u [] = []
 printedBy u (b ∷ bs) = printedAt u b ++ printedBy (afterByte u b) bs
 
 -- the end of the input ends a line, if there are bytes of one
-unfoldable pub printedAtEnd : List ℕ → List ℕ → List ℕ
-printedAtEnd store [] = []
-printedAtEnd store (b ∷ bs) = onLine store (b ∷ bs) .text
+unfoldable pub lastLine : List ℕ → List ℕ → LineOutcome
+lastLine store [] = record { text = []; store = store }
+lastLine store (b ∷ bs) = onLine store (b ∷ bs)
 
-unfoldable pub atEnd : Unfinished → List ℕ
-atEnd u = printedAtEnd (u .store) (u .line)
+unfoldable pub atEnd : Unfinished → LineOutcome
+atEnd u = lastLine (u .store) (u .line)

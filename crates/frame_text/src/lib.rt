@@ -8,8 +8,8 @@ ghost use lib.Dec.{T};
 ghost use lib.ListN.{length};
 ghost use Rattle.little.specs.Little.{value, part, written};
 ghost use Rattle.frame_text.specs.Digits.{digit, allDigits, digitOf, hexValue, digitsOf};
-ghost use Rattle.frame_text.specs.Frames.{frameLength, allZero, madeIf, numbered, frameOf};
-ghost use Rattle.frame_text.specs.Answers.{answerText, badText};
+ghost use Rattle.frame_text.specs.Frames.{wordDigits, frameLength, allZero, madeIf, numbered, frameOf};
+ghost use Rattle.frame_text.specs.Answers.{textLength, badLength, answerText, badText};
 use model::Answer;
 use model::Call;
 use model::Entry;
@@ -24,7 +24,13 @@ pub enum Frame {
 // A call's and a stream's two digits, and eight for each of five arguments.
 pub const FRAME_LENGTH: usize = 44;
 
-const LINE_FEED: u8 = 10;
+// The longest text of a line: an answer's 26 digits and a line feed. No byte of input prints more.
+pub const TEXT_LENGTH: usize = 27;
+
+// The text of a line that is no frame: two digits and a line feed.
+pub const BAD_LENGTH: usize = 3;
+
+pub const LINE_FEED: u8 = 10;
 
 // As many digits as are tested at once: a loop over so many bytes is compiled to a step or two.
 const TESTED: usize = 16;
@@ -52,9 +58,9 @@ pub fn parse(line: &[u8]) -> Frame
     )
 }
 
-// Writes an answer's line, 27 bytes, into out from index `at` on.
+// Writes an answer's line, TEXT_LENGTH bytes, into out from index `at` on.
 pub fn write_answer(answer: Answer, out: &mut [u8], at: usize)
-    requires { ⌜ at + 27 ≤ length (now out) ⌝ }
+    requires { ⌜ at + textLength ≤ length (now out) ⌝ }
     ensures { λ _. ⌜ now (out .exit) ≡ written at (answerText answer) (now (out .entry)) ⌝ }
 {
     put_digits(out, at, 2, answer.refusal);
@@ -64,9 +70,9 @@ pub fn write_answer(answer: Answer, out: &mut [u8], at: usize)
     out[at + 26] = LINE_FEED;
 }
 
-// Writes the line of a line that is no frame, 3 bytes, into out from index `at` on.
+// Writes the text of a line that is no frame, BAD_LENGTH bytes, into out from index `at` on.
 pub fn write_bad(out: &mut [u8], at: usize)
-    requires { ⌜ at + 3 ≤ length (now out) ⌝ }
+    requires { ⌜ at + badLength ≤ length (now out) ⌝ }
     ensures { λ _. ⌜ now (out .exit) ≡ written at badText (now (out .entry)) ⌝ }
 {
     out[at] = b'f';
@@ -187,20 +193,20 @@ fn is_digit(b: u8) -> bool
 // The number that the eight digits of line from index `at` on stand for. They are worked on side by side, in the bytes of one
 // number: each digit's value first, and then the values of two, of four and of all eight.
 fn word_at(line: &[u8], at: usize) -> u32
-    requires { ⌜ (at + 8 ≤ length (now line)) × T (allDigits (part at 8 (now line))) ⌝ }
-    ensures { λ r. ⌜ r ≡ hexValue (part at 8 (now (line .entry))) ⌝ }
+    requires { ⌜ (at + wordDigits ≤ length (now line)) × T (allDigits (part at wordDigits (now line))) ⌝ }
+    ensures { λ r. ⌜ r ≡ hexValue (part at wordDigits (now (line .entry))) ⌝ }
 {
     let text = little::get_u64(line, at);
     let ones = (text & 0x0f0f_0f0f_0f0f_0f0f) + ((text / 64) & 0x0101_0101_0101_0101) * 9;
     let twos = (ones * 16 + ones / 256) & 0x00ff_00ff_00ff_00ff;
     let fours = (twos * 256 + twos / 65536) & 0x0000_ffff_0000_ffff;
-    ((fours * 65536 + fours / 4294967296) & 0xffff_ffff) as u32
+    ((fours * 65536 + fours / 4294967296) % 4294967296) as u32
 }
 
 // Writes the eight digits of n into out from index `at` on.
 fn put_word(out: &mut [u8], at: usize, n: u32)
-    requires { ⌜ at + 8 ≤ length (now out) ⌝ }
-    ensures { λ _. ⌜ now (out .exit) ≡ written at (digitsOf 8 n) (now (out .entry)) ⌝ }
+    requires { ⌜ at + wordDigits ≤ length (now out) ⌝ }
+    ensures { λ _. ⌜ now (out .exit) ≡ written at (digitsOf wordDigits n) (now (out .entry)) ⌝ }
 {
     little::put_u64(out, at, word_text(n));
 }
@@ -208,7 +214,7 @@ fn put_word(out: &mut [u8], at: usize, n: u32)
 // The eight digits of n in the bytes of one number, the first in the lowest. They are worked on side by side: n is taken apart into
 // halves, bytes and digits, and then all digits are made text, a letter 39 further on than a decimal.
 fn word_text(n: u32) -> u64
-    ensures { λ r. ⌜ r ≡ value (digitsOf 8 n) ⌝ }
+    ensures { λ r. ⌜ r ≡ value (digitsOf wordDigits n) ⌝ }
 {
     let whole = n as u64;
     let fours = ((whole / 65536) & 0xffff) + (whole & 0xffff) * 4294967296;

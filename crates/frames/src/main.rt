@@ -1,9 +1,12 @@
 // The program: frames from standard input, over a fresh store, to answers on standard output. What came is answered before more is
 // read, so that it works on a pipe that stays open; its memory does not grow with the input.
 ghost use mathlib.Core.Path.{_≡_};
-ghost use Prim.Native.Nat.{_*_, _≤_};
+ghost use Prim.Native.Nat.{_≤_};
 ghost use lib.ListN.{length};
-ghost use Rattle.feeding.specs.Fed.{fresh, lineRoom, textLength};
+ghost use Rattle.libc.specs.Io.{Moved};
+ghost use Rattle.model.specs.Store.{fresh};
+ghost use Rattle.frame_text.specs.Feeding.{lineRoom};
+ghost use Rattle.frames.specs.Turns.{Lent, TurnTaken, Ran};
 use libc::STDERR_FILENO;
 use libc::STDIN_FILENO;
 use libc::STDOUT_FILENO;
@@ -12,86 +15,96 @@ use libc::STDOUT_FILENO;
 const PIECE_LENGTH: usize = 16384;
 
 // Room for the text of a whole piece, since no byte prints more than a line.
-const OUT_LENGTH: usize = feeding::TEXT_LENGTH * PIECE_LENGTH;
+const OUT_LENGTH: usize = frame_text::TEXT_LENGTH * PIECE_LENGTH;
 
-// What a turn leaves: the bytes of the unfinished line, and whether there may be more input.
+// What a turn leaves: how many bytes the unfinished line has, how many bytes of text are to be printed, whether there may be more
+// input, and whether it came to its end.
 struct Turn {
     have: usize,
+    wrote: usize,
     going: bool,
+    whole: bool,
+}
+
+// How the program ended: whether the whole input was answered, and whether all text was written.
+struct Ended {
+    whole: bool,
+    written: bool,
 }
 
 fn main() {
-    let mut store = [0u8; feeding::STORE_LENGTH];
+    let mut store = [0u8; listening::STORE_LENGTH];
     let mut line = [0u8; feeding::LINE_ROOM];
     let mut piece = [0u8; PIECE_LENGTH];
     let mut out = [0u8; OUT_LENGTH];
-    run(&mut store, &mut line, &mut piece, &mut out);
+    let ended = run(&mut store, &mut line, &mut piece, &mut out);
+    if !ended.written {
+        io::write_all(STDERR_FILENO, b"frames: the output cannot be written\n");
+    } else if !ended.whole {
+        io::write_all(STDERR_FILENO, b"frames: the input cannot be read\n");
+    }
 }
 
-// A proved loop has to end, and nothing says that the input does: it counts its turns down from a number that no run uses up.
-fn run(store: &mut [u8], line: &mut [u8], piece: &mut [u8], out: &mut [u8])
-    requires { ⌜ (now store ≡ fresh) × (length (now line) ≡ lineRoom) × (textLength * length (now piece) ≤ length (now out)) × (textLength ≤ length (now out)) ⌝ }
+// Reads, answers and prints, turn after turn. A proved loop has to end, and nothing says that the input does: it counts its turns
+// down from a number that no run uses up.
+fn run(store: &mut [u8], line: &mut [u8], piece: &mut [u8], out: &mut [u8]) -> Ended
+    requires { ⌜ (now store ≡ fresh) × Lent (now line) (now piece) (now out) ⌝ }
+    ensures { λ r. ⌜ Ran r (now (store .exit)) ⌝ }
 {
     let mut have = 0;
     let mut going = true;
+    let mut whole = false;
+    let mut written = true;
     let mut turns = u64::MAX;
     while turns > 0 && going {
-        let turn = take_turn(store, line, have, piece, out);
+        let got = libc::read(STDIN_FILENO, piece);
+        let turn = answer(store, line, have, piece, got, out);
         have = turn.have;
-        going = turn.going;
+        whole = turn.whole;
+        let wrote = turn.wrote;
+        written = io::write_all(STDOUT_FILENO, &out[..wrote]);
+        going = turn.going & written;
         turns -= 1;
     }
+    Ended { whole, written }
 }
 
-// Reads once and answers what came; at the end of the input, answers the last line.
-fn take_turn(
+// Answers what a read brought to the front of a piece; at the end of the input, the last line.
+fn answer(
     store: &mut [u8],
     line: &mut [u8],
     have: usize,
-    piece: &mut [u8],
+    piece: &[u8],
+    got: isize,
     out: &mut [u8],
 ) -> Turn
-    requires { ⌜ (length (now line) ≡ lineRoom) × (have ≤ lineRoom) × (textLength * length (now piece) ≤ length (now out)) × (textLength ≤ length (now out)) ⌝ }
-    ensures { λ r. ⌜ (r .have ≤ lineRoom) × (length (now (line .exit)) ≡ lineRoom) ⌝ }
+    requires { ⌜ Lent (now line) (now piece) (now out) × (have ≤ lineRoom) × Moved (length (now piece)) got ⌝ }
+    ensures { λ r. ⌜ TurnTaken (now (store .entry)) (now (line .entry)) (now (out .entry)) have (now (piece .entry)) got r (now (store .exit)) (now (line .exit)) (now (out .exit)) ⌝ }
+    ensures { λ r. ⌜ (r .have ≤ lineRoom) × (r .wrote ≤ length (now (out .exit))) ⌝ }
 {
-    let got = libc::read(STDIN_FILENO, piece);
-    if got < 0 {
-        io::write_all(STDERR_FILENO, b"frames: the input cannot be read\n");
-        return Turn { have, going: false };
-    }
-    if got == 0 {
-        answer_last(store, line, have, out);
-        return Turn { have, going: false };
-    }
     let n = io::count(got, piece);
-    answer(store, line, have, &piece[..n], out)
-}
-
-fn answer(store: &mut [u8], line: &mut [u8], have: usize, piece: &[u8], out: &mut [u8]) -> Turn
-    requires { ⌜ (length (now line) ≡ lineRoom) × (have ≤ lineRoom) × (textLength * length (now piece) ≤ length (now out)) ⌝ }
-    ensures { λ r. ⌜ (r .have ≤ lineRoom) × (length (now (line .exit)) ≡ lineRoom) ⌝ }
-{
-    let fed = feeding::feed(store, line, have, piece, out);
-    let wrote = fed.wrote;
-    let going = print(&out[..wrote]);
-    Turn {
-        have: fed.have,
-        going,
+    if n > 0 {
+        let fed = feeding::feed(store, line, have, &piece[..n], out);
+        return Turn {
+            have: fed.have,
+            wrote: fed.wrote,
+            going: true,
+            whole: false,
+        };
     }
-}
-
-fn answer_last(store: &mut [u8], line: &[u8], have: usize, out: &mut [u8])
-    requires { ⌜ (have ≤ length (now line)) × (textLength ≤ length (now out)) ⌝ }
-{
+    if got < 0 {
+        return Turn {
+            have,
+            wrote: 0,
+            going: false,
+            whole: false,
+        };
+    }
     let wrote = feeding::finish(store, line, have, out);
-    print(&out[..wrote]);
-}
-
-// Answers whether the text could be written.
-fn print(text: &[u8]) -> bool {
-    let written = io::write_all(STDOUT_FILENO, text);
-    if !written {
-        io::write_all(STDERR_FILENO, b"frames: the output cannot be written\n");
+    Turn {
+        have,
+        wrote,
+        going: false,
+        whole: true,
     }
-    written
 }

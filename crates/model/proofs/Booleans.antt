@@ -1,10 +1,11 @@
--- Tests taken apart. Assumes nothing.
-use Prim.Native.Nat.{ℕ, _≤_}
+-- Tests taken apart and put together. Assumes nothing.
+use Prim.Native.Nat.{ℕ, _^_, _≤_, _<_}
 use mathlib.Core.Path.{_≡_, refl, sym, subst, _∙_}
 use mathlib.Core.Bool.{Bool, true, false, not, _&&_, _||_}
-use lib.Dec.{T, leb}
+use mathlib.Core.List.{List, [], _∷_}
+use lib.Dec.{T, leb, ltb, lt→ltb}
 use borrow.Author.Tests.{leb-true}
-use Rattle.model.specs.Stations.{within}
+use Rattle.model.specs.Stations.{within, allWords}
 
 pub holds-of : (b : Bool) → T b → b ≡ true
 holds-of true t = refl
@@ -44,3 +45,12 @@ within-of low high n e =
 -- a test does not come out both ways
 pub never-both : (b : Bool) → b ≡ true → b ≡ false → ⊥
 never-both b holds fails = subst (λ (x : Bool). T x) (sym holds ∙ fails) tt
+
+-- 32-bit numbers, one after the other
+pub no-words : T (allWords [])
+unfolding allWords
+no-words = tt
+
+pub word-and : (n : ℕ) (ns : List ℕ) → n < 2 ^ 32 → T (allWords ns) → T (allWords (n ∷ ns))
+unfolding allWords
+word-and n ns small words = both (ltb n (2 ^ 32)) (allWords ns) (lt→ltb n (2 ^ 32) small) words

@@ -4,10 +4,10 @@ use mathlib.Core.Path.{_≡_, refl, sym, _∙_}
 use mathlib.Core.Bool.{Bool, true, false, cond, _&&_, _||_}
 use mathlib.Core.List.{List, [], _∷_}
 use native.Mathlib.Omega.{arith}
-use lib.Dec.{T, eqb, ltb}
+use lib.Dec.{T, eqb}
 use lib.ListN.{length, getD}
 use lib.Seq.{take-all}
-use borrow.Author.Tests.{eqb-true, lt-ltb}
+use borrow.Author.Tests.{eqb-true}
 use Rattle.little.specs.Little.{bytes, value, part, AreBytes}
 use Rattle.little.proofs.Laws.{value-range, length-part}
 use Rattle.plans.proofs.Bounds.{either}
@@ -20,7 +20,7 @@ use Rattle.model.specs.Sizes.{recordLength}
 use Rattle.model.specs.Stations.{entryArguments, allWords}
 use Rattle.model.specs.Calls.{firstOf, entryRefusals}
 use Rattle.model.specs.Area.{recordBytes, recordOf, entryIn}
-use Rattle.model.proofs.Booleans.{of-holds, both, both-true}
+use Rattle.model.proofs.Booleans.{both-true, no-words, word-and}
 use Rattle.model.proofs.AreaReading.{entry-read}
 use Rattle.records.specs.declared.Record.{Record}
 use Rattle.records.specs.Records.{recordIn}
@@ -123,14 +123,6 @@ entry-of-record p f i e h t = sym (entry-in p f (recordOf e)) ∙ entry-read p f
 
 -- ---- the arguments
 
-pub word : (n : ℕ) (ns : List ℕ) → n < 2 ^ 32 → T (allWords ns) → T (allWords (n ∷ ns))
-unfolding allWords
-word n ns h t = both (ltb n (2 ^ 32)) (allWords ns) (of-holds _ (lt-ltb n (2 ^ 32) h)) t
-
-pub no-words : T (allWords [])
-unfolding allWords
-no-words = tt
-
 -- the arguments that a record holds are 32-bit numbers
 pub words-of : (p : Plan) (f : Figures) (r : List ℕ) → length r ≡ recordLength → AreBytes r
     → T (allWords (entryArguments (entryOf p f (recordIn r))))
@@ -143,9 +135,9 @@ words-of p f r l h =
     let d = value-within 16 4 r h (omega arith) in
     let n = sample-at-most p f (value (part 8 4 r)) in
     either Words (eqb (getD r 0 0) 1)
-    (word _ _ a (word _ _ b (word _ _ (omega arith) (word _ _ c (word _ _ d no-words)))))
-    (either Words (eqb (getD r 0 0) 2) (word _ _ a (word _ _ flag no-words))
-    (either Words (eqb (getD r 0 0) 3) (word _ _ a (word _ _ flag no-words)) (word _ _ flag (word _ _ a no-words))))
+    (word-and _ _ a (word-and _ _ b (word-and _ _ (omega arith) (word-and _ _ c (word-and _ _ d no-words)))))
+    (either Words (eqb (getD r 0 0) 2) (word-and _ _ a (word-and _ _ flag no-words))
+    (either Words (eqb (getD r 0 0) 3) (word-and _ _ a (word-and _ _ flag no-words)) (word-and _ _ flag (word-and _ _ a no-words))))
   where
     Words : Entry → Type 0
     Words e = T (allWords (entryArguments e))

@@ -2,6 +2,7 @@ use Prim.Native.Nat.{_+_, _-_}
 use mathlib.Core.Path.{_≡_}
 use native.Mathlib.Omega.{arith}
 use Rattle.little.specs.Little.{part}
+use Rattle.frame_text.specs.Frames.{frameLength}
 use Rattle.feeding.proofs.Laws.{frame-not-taken, frame-taken}
 use borrow.Author.Needs.{needs}
 use Rattle.feeding.proofs.take_frame.Statement.{statement}
@@ -48,7 +49,7 @@ unfolding part
 returns-4 c =
     let start = c .before .before .before .before .before .before .before .before .before .before .before .before .before .before .before in
     let i = start .args .i in
-    let width : i + 44 - i ≡ 44 = omega arith in
+    let width : i + frameLength - i ≡ frameLength = omega arith in
     frame-taken _ _ (start .args .piece .now) i _ _ _ _ _ (c .before .before .before .before .before .before .before .before .before .before .before .if1 .left) (omega arith) (c .before .before .before .before .before .before .before .before .if3 .left)
     (rw width at (c .before .before .before .before .make-frame .ensures))
 

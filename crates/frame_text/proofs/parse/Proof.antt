@@ -1,7 +1,7 @@
 use Rattle.frame_text.proofs.Laws.{digits-part}
 use Rattle.frame_text.proofs.Words.{call-and-stream}
 use Rattle.frame_text.specs.Digits.{allDigits}
-use Rattle.frame_text.specs.Frames.{callNumber, streamIn, argument, frameOf}
+use Rattle.frame_text.specs.Frames.{wordDigits, frameLength, callNumber, streamIn, argument, frameOf}
 use Rattle.little.specs.Little.{part}
 use Rattle.model.proofs.Booleans.{of-holds}
 use mathlib.Core.Path.{_≡_, sym, _∙_}
@@ -29,10 +29,10 @@ returns-2 c = simp (eq-eqb _ _ (c .before .before .if1 .left), sym (c .before .a
 all-digits : (c : tie.Else2) → allDigits (c .before .before .before .before .args .line .now) ≡ true
 all-digits c = sym (c .before .all-digits .ensures) ∙ not-false _ (c .if2 .left)
 
--- any eight of 44 digits can be read
-ready : (c : tie.Else2) (at : ℕ) → at + 8 ≤ 44
-    → (at + 8 ≤ length (c .before .before .before .before .args .line .now)) × T (allDigits (part at 8 (c .before .before .before .before .args .line .now)))
-ready c at fits = (omega arith, digits-part at 8 _ (of-holds _ (all-digits c)))
+-- any eight of a frame's digits can be read
+ready : (c : tie.Else2) (at : ℕ) → at + wordDigits ≤ frameLength
+    → (at + wordDigits ≤ length (c .before .before .before .before .args .line .now)) × T (allDigits (part at wordDigits (c .before .before .before .before .args .line .now)))
+ready c at fits = (omega arith, digits-part at wordDigits _ (of-holds _ (all-digits c)))
 
 word-at-requires : tie.Need-word-at-requires
 word-at-requires c κs = ready c 0 (lit≤ tt)

@@ -2,7 +2,7 @@ use Prim.Native.Nat.{_/_, _≤_}
 use native.Mathlib.Omega.{arith}
 use lib.Bits.{and-le-r}
 use Rattle.little.proofs.Laws.{length-part}
-use Rattle.frame_text.proofs.Words.{onesIn, ones-small, twos-small, fours-small, word-small, word-in}
+use Rattle.frame_text.proofs.Words.{onesIn, ones-small, twos-small, fours-small, word-in}
 use borrow.Author.Needs.{needs}
 use Rattle.frame_text.proofs.word_at.Statement.{statement}
 use Rattle.frame_text.proofs.word_at.Tie as tie
@@ -41,7 +41,7 @@ add-result : tie.Need-add-result
 add-result c = omega (arith, fours-small (c .get-u64 .result))
 
 cast-result : tie.Need-cast-result
-cast-result c = omega (arith, word-small (c .get-u64 .result))
+cast-result c = omega arith
 
 returns : tie.Need-returns
 returns c =

@@ -1,6 +1,6 @@
 use Rattle.frame_text.proofs.Laws.{length-digits, length-answer, write-on, store-on}
 use Rattle.frame_text.specs.Digits.{digitsOf}
-use Rattle.frame_text.specs.Answers.{lineFeed, answerText}
+use Rattle.frame_text.specs.Answers.{lineFeed, textLength, answerText}
 use Rattle.little.specs.Little.{written}
 use Rattle.little.proofs.Laws.{length-written}
 use Rattle.model.specs.declared.Answer.{Answer}
@@ -14,7 +14,7 @@ use Rattle.frame_text.proofs.write_answer.Statement.{statement}
 use Rattle.frame_text.proofs.write_answer.Tie as tie
 
 -- four numbers and a line feed, one behind the other
-one-line : (at : ℕ) (r : Answer) (s : List ℕ) → at + 27 ≤ length s
+one-line : (at : ℕ) (r : Answer) (s : List ℕ) → at + textLength ≤ length s
     → set
     (written (at + 18) (digitsOf 8 (r .third))
     (written (at + 10) (digitsOf 8 (r .second))

@@ -1,23 +1,18 @@
-use mathlib.Core.Path.{sym}
+use mathlib.Core.Path.{refl}
 use native.Mathlib.Omega.{arith}
-use lib.Seq.{length-take-le}
 use borrow.Author.Needs.{needs}
+use Rattle.frames.proofs.Laws.{fed-turn, failed-turn, last-turn}
 use Rattle.frames.proofs.answer.Statement.{statement}
 use Rattle.frames.proofs.answer.Tie as tie
 
+count-requires : tie.Need-count-requires
+count-requires c κs = search needs
+
+slice-aggregate-feed : tie.Need-slice-aggregate-feed
+slice-aggregate-feed c = search needs
+
 feed-requires : tie.Need-feed-requires
 feed-requires c κs = search needs
-
-slice-reshare-prefix-print : tie.Need-slice-reshare-prefix-print
-slice-reshare-prefix-print c = search needs
-
-slice-aggregate-print : tie.Need-slice-aggregate-print
-slice-aggregate-print c =
-    let feed = c .before .before .before .before .before .before .before .feed in
-    sym (length-take-le (feed .result .wrote) (feed .last .1 .1 .1 .1 .0) (omega arith))
-
-print-requires : tie.Need-print-requires
-print-requires c κs = search needs
 
 same-length : tie.Need-same-length
 same-length c = search needs
@@ -29,17 +24,48 @@ same-length-3 : tie.Need-same-length-3
 same-length-3 c = search needs
 
 returns : tie.Need-returns
-returns c = search needs
+returns c =
+    let start = c .before .before .before .before .before .before .before .before .before .before .before .before .before .before .before .before .before in
+    let feed = c .before .before .before .before .before .before .feed in
+    (fed-turn _ _ _ _ (start .args .piece .now) _ _ _ _ (start .args .got) (start .fits .got) _ (start .pre .2) (c .before .before .before .before .before .before .before .before .before .before .before .before .count .ensures .1) (omega arith) (record { fed = feed .ensures; going = refl; whole = refl }), (feed .ensures .short, omega (arith, feed .ensures .small)))
+
+returns-2 : tie.Need-returns-2
+returns-2 c =
+    let start = c .before .before .before .before .before .before .before in
+    (failed-turn _ _ _ _ _ _ _ _ _ (start .args .got) (start .fits .got) (c .if2 .taken) (record { sameStore = refl; nothing = refl; going = refl; whole = refl }), (start .pre .1, omega arith))
+
+finish-requires : tie.Need-finish-requires
+finish-requires c κs = search needs
+
+same-length-4 : tie.Need-same-length-4
+same-length-4 c = search needs
+
+same-length-5 : tie.Need-same-length-5
+same-length-5 c = search needs
+
+same-length-6 : tie.Need-same-length-6
+same-length-6 c = search needs
+
+returns-3 : tie.Need-returns-3
+returns-3 c =
+    let start = c .before .before .before .before .before .before .before .before .before .before .before .before .before .before .before in
+    let finish = c .before .before .before .before .finish in
+    (last-turn _ _ _ _ (start .args .piece .now) _ _ _ _ (start .args .got) (start .fits .got) _ (start .pre .2) (c .before .before .before .before .before .before .before .before .before .before .count .ensures .1) (omega arith) (c .before .before .before .before .before .before .before .before .if2 .left) (record { finished = finish .ensures; going = refl; whole = refl }), (start .pre .1, omega (arith, finish .ensures .small)))
 
 pub answer-spec : {M : Type 1} → statement M
 answer-spec =
     tie.close
     (tie.spec
+    count-requires
+    slice-aggregate-feed
     feed-requires
-    slice-reshare-prefix-print
-    slice-aggregate-print
-    print-requires
     same-length
     same-length-2
     same-length-3
-    returns)
+    returns
+    returns-2
+    finish-requires
+    same-length-4
+    same-length-5
+    same-length-6
+    returns-3)

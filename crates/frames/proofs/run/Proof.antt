@@ -1,28 +1,60 @@
--- The loop's invariant: the lent buffers kept their lengths, and the unfinished line is within its own. The measure is how many turns are left.
-use mathlib.Core.Path.{_≡_}
-use Prim.Native.Nat.{_≤_}
+-- The loop's invariant: the lent buffers kept their lengths, the unfinished line is within its own, and some input came, of which the
+-- calls are made. The measure is how many turns are left.
+use mathlib.Core.Path.{_≡_, refl, sym, subst}
+use native.Mathlib.Omega.{arith}
+use Prim.Native.Nat.{ℕ, _≤_}
 use lib.ListN.{length}
+use lib.Seq.{length-take-le}
+use mir.Syntax.{w64}
+use mir.ValLaws.{toZ-ofZ}
 use borrow.Author.Needs.{needs}
-use Rattle.feeding.specs.Fed.{lineRoom}
+use Rattle.libc.specs.Io.{Moved}
+use Rattle.frame_text.specs.Feeding.{lineRoom}
+use Rattle.frames.proofs.Laws.{Progress, no-turn, turn-more}
 use Rattle.frames.proofs.run.Statement.{statement}
 use Rattle.frames.proofs.run.Tie as tie
 
 abbrev Inv-loop : tie.InvT-loop
-Inv-loop store₀ line₀ piece₀ out₀ have₀ going₀ turns₀ store line piece out have going turns =
+Inv-loop store₀ line₀ piece₀ out₀ have₀ going₀ whole₀ written₀ turns₀ store line piece out have going whole written turns =
     (have ≤ lineRoom)
     × (length line ≡ lineRoom)
     × (length store ≡ length store₀)
     × (length piece ≡ length piece₀)
     × (length out ≡ length out₀)
+    × Progress going whole store line have
 
 abbrev μ-loop : tie.MeasureT-loop
-μ-loop store₀ line₀ piece₀ out₀ have₀ going₀ turns₀ store line piece out have going turns = turns
+μ-loop store₀ line₀ piece₀ out₀ have₀ going₀ whole₀ written₀ turns₀ store line piece out have going whole written turns = turns
 
 loop-holds : tie.Need-loop-holds Inv-loop μ-loop
-loop-holds c = search needs
+loop-holds c =
+    let start = c .before .before .before .before in
+    (omega arith, start .pre .1 .lineLong, refl, refl, refl, rw (start .pre .0) (no-turn (start .args .line .now)))
 
-take-turn-requires : tie.Need-take-turn-requires Inv-loop μ-loop
-take-turn-requires c κs = search needs
+read-requires : tie.Need-read-requires Inv-loop μ-loop
+read-requires c κs = search needs
+
+answer-requires : tie.Need-answer-requires Inv-loop μ-loop
+answer-requires c κs =
+    let start = c .before .before .before .before .before .before .before .before .before .before .before .before .before .before .before in
+    let inv = c .before .before .before .before .before .before .before .before .before .before .loop .inv in
+    let read = c .before .before .before .before .before .before .read in
+    let same : length (c .before .before .before .before .before .before .before .before .before .before .loop .piece) ≡ length (read .last .1 .0) = search needs in (
+      record { lineLong = inv .1; pieceRoom = omega (arith, start .pre .1 .pieceRoom, inv .3, inv .4); lastRoom = omega (arith, start .pre .1 .lastRoom, inv .4) },
+      inv .0,
+      rw (toZ-ofZ w64 (read .result) (record { sfits = read .ok })) (subst (λ (n : ℕ). Moved n (read .result)) same (read .ensures)),
+    )
+
+slice-reshare-prefix-write-all : tie.Need-slice-reshare-prefix-write-all Inv-loop μ-loop
+slice-reshare-prefix-write-all c = search needs
+
+slice-aggregate-write-all : tie.Need-slice-aggregate-write-all Inv-loop μ-loop
+slice-aggregate-write-all c =
+    let answer = c .before .before .before .before .before .before .before .answer in
+    sym (length-take-le (answer .result .wrote) (answer .last .1 .1 .1 .1 .1 .0) (answer .ensures .1 .1))
+
+write-all-requires : tie.Need-write-all-requires Inv-loop μ-loop
+write-all-requires c κs = search needs
 
 sub-turns : tie.Need-sub-turns Inv-loop μ-loop
 sub-turns c = search needs
@@ -31,7 +63,9 @@ loop-less : tie.Need-loop-less Inv-loop μ-loop
 loop-less c = search needs
 
 loop-again : tie.Need-loop-again Inv-loop μ-loop
-loop-again c = search needs
+loop-again c =
+    let answer = c .before .before .before .before .before .before .before .before .before .answer in
+    (answer .ensures .1 .0, search needs, search needs, search needs, search needs, turn-more _ _ _ _ _ _ _ _ _ _ _ _ _ (c .before .before .before .before .before .before .before .before .before .before .before .before .before .before .before .before .before .before .if1 .taken) (c .before .before .before .before .before .before .before .before .before .before .before .before .before .before .before .before .before .before .before .before .loop .inv .5) (answer .ensures .0))
 
 same-length : tie.Need-same-length Inv-loop μ-loop
 same-length c = search needs
@@ -46,7 +80,7 @@ same-length-4 : tie.Need-same-length-4 Inv-loop μ-loop
 same-length-4 c = search needs
 
 returns : tie.Need-returns Inv-loop μ-loop
-returns c = search needs
+returns c = let so = c .before .before .loop .inv .5 in (so .0, so .1)
 
 same-length-5 : tie.Need-same-length-5 Inv-loop μ-loop
 same-length-5 c = search needs
@@ -61,7 +95,7 @@ same-length-8 : tie.Need-same-length-8 Inv-loop μ-loop
 same-length-8 c = search needs
 
 returns-2 : tie.Need-returns-2 Inv-loop μ-loop
-returns-2 c = search needs
+returns-2 c = let so = c .before .loop .inv .5 in (so .0, so .1)
 
 pub run-spec : {M : Type 1} → statement M
 run-spec =
@@ -70,7 +104,11 @@ run-spec =
     Inv-loop
     μ-loop
     loop-holds
-    take-turn-requires
+    read-requires
+    answer-requires
+    slice-reshare-prefix-write-all
+    slice-aggregate-write-all
+    write-all-requires
     sub-turns
     loop-less
     loop-again

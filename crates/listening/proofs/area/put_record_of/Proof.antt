@@ -7,7 +7,7 @@ use native.Mathlib.Omega.{arith}
 use Rattle.listening.specs.Written.{flagOf}
 use Rattle.model.specs.Stations.{entryArguments}
 use Rattle.model.specs.Area.{recordOf}
-use Rattle.replaying.proofs.RecordForm.{word, no-words}
+use Rattle.model.proofs.Booleans.{no-words, word-and}
 use borrow.Author.Needs.{needs}
 use Rattle.listening.proofs.area.put_record_of.Statement.{statement}
 use Rattle.listening.proofs.area.put_record_of.Tie as tie
@@ -56,7 +56,7 @@ unfolding recordOf entryArguments
 returns c = (
   c .before .before .put-record .ensures
       ∙ ap (λ (e : Entry). written (headerLength + recordLength * c .before .before .before .before .before .before .before .before .args .i) (recordOf e) (c .before .before .before .before .before .before .before .before .args .area .now)) (sym (c .before .before .before .before .before .entry .given .1)),
-  rw (c .before .before .before .before .before .entry .given .1) (word _ _ (omega arith) (word _ _ (omega arith) (word _ _ (omega arith) (word _ _ (omega arith) (word _ _ (omega arith) no-words))))),
+  rw (c .before .before .before .before .before .entry .given .1) (word-and _ _ (omega arith) (word-and _ _ (omega arith) (word-and _ _ (omega arith) (word-and _ _ (omega arith) (word-and _ _ (omega arith) no-words))))),
 )
 
 same-length-2 : tie.Need-same-length-2
@@ -67,7 +67,7 @@ unfolding recordOf entryArguments
 returns-2 c = (
   c .before .before .put-record2 .ensures
       ∙ ap (λ (e : Entry). written (headerLength + recordLength * c .before .before .before .before .before .before .before .before .args .i) (recordOf e) (c .before .before .before .before .before .before .before .before .args .area .now)) (sym (c .before .before .before .before .before .entry2 .given .1)),
-  rw (c .before .before .before .before .before .entry2 .given .1) (word _ _ (omega arith) (word _ _ (omega arith) no-words)),
+  rw (c .before .before .before .before .before .entry2 .given .1) (word-and _ _ (omega arith) (word-and _ _ (omega arith) no-words)),
 )
 
 same-length-3 : tie.Need-same-length-3
@@ -78,7 +78,7 @@ unfolding recordOf entryArguments
 returns-3 c = (
   c .before .before .put-record3 .ensures
       ∙ ap (λ (e : Entry). written (headerLength + recordLength * c .before .before .before .before .before .before .before .before .args .i) (recordOf e) (c .before .before .before .before .before .before .before .before .args .area .now)) (sym (c .before .before .before .before .before .entry3 .given .1)),
-  rw (c .before .before .before .before .before .entry3 .given .1) (word _ _ (omega arith) (word _ _ (omega arith) no-words)),
+  rw (c .before .before .before .before .before .entry3 .given .1) (word-and _ _ (omega arith) (word-and _ _ (omega arith) no-words)),
 )
 
 same-length-4 : tie.Need-same-length-4
@@ -89,7 +89,7 @@ unfolding recordOf entryArguments
 returns-4 c = (
   c .before .before .put-record4 .ensures
       ∙ ap (λ (e : Entry). written (headerLength + recordLength * c .before .before .before .before .before .before .before .before .args .i) (recordOf e) (c .before .before .before .before .before .before .before .before .args .area .now)) (sym (c .before .before .before .before .before .entry4 .given .1)),
-  rw (c .before .before .before .before .before .entry4 .given .1) (word _ _ (omega arith) (word _ _ (omega arith) no-words)),
+  rw (c .before .before .before .before .before .entry4 .given .1) (word-and _ _ (omega arith) (word-and _ _ (omega arith) no-words)),
 )
 
 pub put-record-of-spec : {M : Type 1} → statement M

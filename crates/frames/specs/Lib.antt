@@ -1,0 +1,2 @@
+-- What the program's contracts cite beside the definitions of feeding.
+pub mod Turns
