@@ -1,5 +1,5 @@
 -- A record's numbers in its bytes, and the parts of an area's figures. The clauses of `src/` cite these. Assumes nothing.
-use Prim.Native.Nat.{ℕ, _*_, _<_}
+use Prim.Native.Nat.{ℕ, _*_, _≤_, _<_}
 use mathlib.Core.Path.{_≡_}
 use mathlib.Core.Bool.{Bool, true}
 use mathlib.Core.List.{List, [], _∷_, _++_}
@@ -46,3 +46,7 @@ continuousBytes s = bytes 4 (s .count) ++ (s .phase ∷ 0 ∷ bytes 2 (s .tail))
 pub record Decides (b : Bool) (P : Type 0) : Type 0 where
   pub shows : b ≡ true → P
   pub shown : P → b ≡ true
+
+-- the bytes from one index on, up to another, are zero
+abbrev pub ZeroBetween : List ℕ → ℕ → ℕ → Type 0
+ZeroBetween area from to = (k : ℕ) → from ≤ k → k < to → getD area k 0 ≡ 0

@@ -1,100 +1,107 @@
--- `records::is_zero_from` meets its contract. The loop's invariant: no byte that was passed is above the largest, which is 0 where
--- they are. The measure is how many are left.
+-- `records::is_zero_from` meets its contract. The loop's invariant: the bytes of the windows that were passed are zero. The measure is
+-- how many bytes are left.
 -- Assumes nothing.
-use borrow.Author.Count.{below-more}
-use borrow.Author.Tests.{eqb-true, eq-eqb}
-use mathlib.Core.Path.{_≡_, sym, ap, _∙_}
-use mathlib.Core.Logic.{⊎-elim}
+use borrow.Author.Tests.{ltb-true, ltb-false, not-true, not-false}
+use mathlib.Core.Path.{_≡_, refl, sym, ap, _∙_}
+use mathlib.Core.Bool.{Bool, true, false}
 use mathlib.Core.List.{List}
 use Prim.Native.Nat.{ℕ, _+_, _-_, _≤_, _<_}
 use native.Mathlib.Omega.{arith}
+use lib.Dec.{ltb}
 use lib.ListN.{length, drop, getD, length-drop, length-replicate, getD-replicate}
 use lib.Seq.{getD-drop, ext-getD}
 use Rattle.model.specs.Sizes.{areaLength}
 use Rattle.model.specs.Area.{zeros}
-use Rattle.records.specs.Records.{Decides}
+use Rattle.records.specs.Records.{Decides, ZeroBetween}
+use Rattle.records.proofs.Laws.{refuted, decided-not}
 use Rattle.records.proofs.is_zero_from.Statement.{statement}
 use Rattle.records.proofs.is_zero_from.Tie as tie
 
--- the bytes below one index, from another on, are zero
-abbrev ZeroBelow : List ℕ → ℕ → ℕ → Type 0
-ZeroBelow area from to = (k : ℕ) → k < to → from ≤ k → getD area k 0 ≡ 0
-
--- they are at most so much
-abbrev AtMost : List ℕ → ℕ → ℕ → ℕ → Type 0
-AtMost area from to most = (k : ℕ) → k < to → from ≤ k → getD area k 0 ≤ most
-
 abbrev Inv-loop : tie.InvT-loop
-Inv-loop area from most₀ i₀ most i =
-    (from ≤ i) × (i ≤ areaLength) × AtMost area from i most × (ZeroBelow area from i → most ≡ 0)
+Inv-loop area from at₀ at = (from ≤ at) × (at ≤ areaLength) × ZeroBetween area from at
 
 abbrev μ-loop : tie.MeasureT-loop
-μ-loop area from most₀ i₀ most i = areaLength - i
+μ-loop area from at₀ at = areaLength - at
 
-rest-zero : (area : List ℕ) (from to : ℕ) → to ≡ length area → ZeroBelow area from to → drop from area ≡ zeros (length area - from)
-rest-zero area from to e all =
+rest-zero : (area : List ℕ) (from : ℕ) → ZeroBetween area from (length area) → drop from area ≡ zeros (length area - from)
+rest-zero area from all =
     ext-getD 0 _ _ (length-drop from area ∙ sym (length-replicate _ 0))
     (λ k l.
     let l′ : k < length area - from = rw length-drop at l in
     getD-drop from area k 0 ∙ all (from + k) (omega arith) (omega arith) ∙ sym (getD-replicate _ k 0 0 l′))
 
-zero-rest : (area : List ℕ) (from to : ℕ) → to ≡ length area → drop from area ≡ zeros (length area - from) → ZeroBelow area from to
-zero-rest area from to e rest k l h =
+zero-rest : (area : List ℕ) (from : ℕ) → drop from area ≡ zeros (length area - from) → ZeroBetween area from (length area)
+zero-rest area from rest k h l =
     let at : k ≡ from + (k - from) = omega arith in
     ap (λ (n : ℕ). getD area n 0) at
     ∙ sym (getD-drop from area (k - from) 0)
     ∙ ap (λ (s : List ℕ). getD s (k - from) 0) rest
     ∙ getD-replicate (length area - from) (k - from) 0 0 (omega arith)
 
+zero-joined : (area : List ℕ) (from at to : ℕ) → ZeroBetween area from at → ZeroBetween area at to → ZeroBetween area from to
+zero-joined area from at to front back k h l = go (ltb k at) refl
+  where
+    go : (b : Bool) → ltb k at ≡ b → getD area k 0 ≡ 0
+    go true e = front k h (ltb-true k at e)
+    go false e = back k (ltb-false k at e) l
+
 loop-holds : tie.Need-loop-holds Inv-loop μ-loop
-loop-holds c = (omega arith, omega arith, λ k l h. absurd (omega arith), λ all. omega arith)
+loop-holds c = (omega arith, omega arith, λ k h l. absurd (omega arith))
 
-shared-slice-read-if1 : tie.Need-shared-slice-read-if1 Inv-loop μ-loop
-shared-slice-read-if1 c = omega arith
+add-loop : tie.Need-add-loop Inv-loop μ-loop
+add-loop c = omega arith
 
-shared-slice-read-most : tie.Need-shared-slice-read-most Inv-loop μ-loop
-shared-slice-read-most c = omega arith
+add-is-zero-in : tie.Need-add-is-zero-in Inv-loop μ-loop
+add-is-zero-in c = omega arith
 
-add-i : tie.Need-add-i Inv-loop μ-loop
-add-i c = omega arith
+is-zero-in-requires : tie.Need-is-zero-in-requires Inv-loop μ-loop
+is-zero-in-requires c κs = (c .before .before .before .pre .0, omega arith, omega arith)
+
+returns : tie.Need-returns Inv-loop μ-loop
+returns c =
+    let start = c .before .before .before .before .before in
+    let turn = c .before .before .before .loop in
+    let test = c .before .is-zero-in in
+    refuted
+    (λ rest.
+    decided-not (test .ensures) (not-true (test .result) (c .if1 .taken))
+    (λ k h l. zero-rest (start .args .area .now) (start .args .from) rest k (omega arith) (omega (arith, start .pre .0))))
+
+add-at : tie.Need-add-at Inv-loop μ-loop
+add-at c = omega arith
 
 loop-less : tie.Need-loop-less Inv-loop μ-loop
 loop-less c = omega arith
 
--- with one byte more
-most-more : (area : List ℕ) (from i most next : ℕ) → most ≤ next → getD area i 0 ≤ next → AtMost area from i most
-    → AtMost area from (i + 1) next
-most-more area from i most next more last all =
-    below-more _ _ (λ k l h. omega (arith, all k l h)) (λ h. last)
-
 loop-again : tie.Need-loop-again Inv-loop μ-loop
 loop-again c =
-    let start = c .before .before .before .before .args in
-    let turn = c .before .before .before .loop in (
+    let start = c .before .before .before .before .before in
+    let turn = c .before .before .before .loop in
+    let test = c .before .is-zero-in in (
       omega arith,
       omega arith,
-      ⊎-elim
-          (λ w. rw (w .2) (most-more (start .area .now) (start .from) (turn .i) (turn .most) _ (omega (arith, w .0 .taken)) (omega arith) (turn .inv .2)))
-          (λ w. rw (w .1) (most-more (start .area .now) (start .from) (turn .i) (turn .most) _ (omega arith) (omega (arith, w .0 .left)) (turn .inv .2)))
-          (c .if1 .came),
-      λ all.
-          ⊎-elim
-          (λ w. w .2 ∙ all (turn .i) (omega arith) (omega arith))
-          (λ w. w .1 ∙ turn .inv .3 (λ k l h. all k (omega arith) h))
-          (c .if1 .came),
+      zero-joined (start .args .area .now) (start .args .from) (turn .at) _ (turn .inv .2)
+          (test .ensures .shows (not-false (test .result) (c .if1 .left))),
     )
 
-returns : tie.Need-returns Inv-loop μ-loop
-returns c =
-    let start = c .before .before .args in
-    let turn = c .before .loop in
-    let end : turn .i ≡ length (start .area .now) = omega arith in
+is-zero-in-requires-2 : tie.Need-is-zero-in-requires-2 Inv-loop μ-loop
+is-zero-in-requires-2 c κs = (c .before .before .before .pre .0, omega arith, omega arith)
+
+returns-2 : tie.Need-returns-2 Inv-loop μ-loop
+returns-2 c =
+    let start = c .before .before .before .before in
+    let turn = c .before .before .loop in
+    let test = c .is-zero-in2 in
     record {
       shows =
           λ e.
-          rest-zero (start .area .now) (start .from) (turn .i) end
-          (λ k l h. omega (arith, turn .inv .2 k l h, eqb-true (turn .most) 0 e));
-      shown = λ rest. eq-eqb (turn .most) 0 (turn .inv .3 (zero-rest _ _ _ end rest));
+          rest-zero (start .args .area .now) (start .args .from)
+          (rw (start .pre .0)
+          (zero-joined (start .args .area .now) (start .args .from) (turn .at) areaLength (turn .inv .2) (test .ensures .shows e)));
+      shown =
+          λ rest.
+          test .ensures .shown
+          (λ k h l. zero-rest (start .args .area .now) (start .args .from) rest k (omega arith) (omega (arith, start .pre .0)));
     }
 
 pub is-zero-from-spec : {M : Type 1} → statement M
@@ -104,9 +111,12 @@ is-zero-from-spec =
     Inv-loop
     μ-loop
     loop-holds
-    shared-slice-read-if1
-    shared-slice-read-most
-    add-i
+    add-loop
+    add-is-zero-in
+    is-zero-in-requires
+    returns
+    add-at
     loop-less
     loop-again
-    returns)
+    is-zero-in-requires-2
+    returns-2)
