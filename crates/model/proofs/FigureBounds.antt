@@ -12,7 +12,8 @@ use Rattle.plans.specs.Stops.{setUpChanged, longStop}
 use Rattle.plans.specs.Continuous.{screening, sampling, isSampling, afterRun, afterBlock, afterStop}
 use Rattle.plans.specs.declared.level.LevelState.{LevelState}
 use Rattle.plans.specs.declared.continuous.Continuous.{Continuous}
-use Rattle.plans.proofs.Bounds.{either, LevelWithin, judged-lot-within, met-stop-within, start-within}
+use Rattle.plans.specs.LevelBounds.{LevelWithin}
+use Rattle.plans.proofs.Bounds.{either, judged-lot-within, met-stop-within, start-within}
 use Rattle.plans.proofs.RoundedUp.{credit-after-at-most}
 use Rattle.model.specs.declared.Plan.{Plan}
 use Rattle.model.specs.declared.Entry.{Entry}
@@ -20,19 +21,10 @@ use Rattle.model.specs.declared.Entry.the-variants.{Lot, Run, Block, Sto
 use Rattle.model.specs.declared.Figures.{Figures}
 use Rattle.model.specs.Stations.{isCredit, isLevel, isContinuous, hasOption, validPlan, allWords, entryArguments}
 use Rattle.model.specs.Figuring.{noLevel, started, verdictOn, acceptedBy, creditStep, levelStep, continuousStep, isLot, labelOf, stepped, figuresOf}
+use Rattle.model.specs.FigureBounds.{FiguresWithin}
 use Rattle.model.specs.Calls.{firstOf, entryRefusals, sizeInRange, admissible}
 use Rattle.model.proofs.Booleans.{both-of, within-of}
 use Rattle.model.proofs.Allowed.{AllowedLot, AllowedRun, AllowedBlock, allowed-lot, allowed-run, allowed-block, newest-of, continuous-plan}
-
--- the figures of a stream with at most n standing entries
-pub record FiguresWithin (n : ℕ) (f : Figures) : Type 0 where
-  pub credits : f .credit .0 ≤ 1000000 * n
-  pub levels : LevelWithin n (f .level)
-  pub counts : f .continuous .count ≤ 10000
-  pub phases : f .continuous .phase ≤ 1
-  pub tails : f .continuous .tail ≤ 200
-  pub acceptedIn : f .accepted ≤ 1000000 * n
-  pub labels : f .label < 2 ^ 32
 
 -- ---- one lot, run, block or stop
 

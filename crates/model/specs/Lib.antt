@@ -3,6 +3,7 @@
 pub mod Sizes
 pub mod Stations
 pub mod Figuring
+pub mod FigureBounds
 pub mod Calls
 pub mod Area
 pub mod Store

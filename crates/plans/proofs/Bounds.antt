@@ -19,6 +19,7 @@ use Rattle.plans.specs.Levels.{
   metStop,
   withheldIn,
 }
+use Rattle.plans.specs.LevelBounds.{LevelWithin}
 use Rattle.plans.specs.Severities.{reduced, normal, tightened}
 use Rattle.plans.specs.Stops.{setUpChanged, longStop}
 use Rattle.plans.specs.declared.level.LevelState.{LevelState}
@@ -27,13 +28,6 @@ use Rattle.plans.specs.declared.level.LevelState.{LevelState}
 pub either : {A : Type 0} (P : A → Type 0) (b : Bool) {x y : A} → P x → P y → P (cond b x y)
 either P true p q = p
 either P false p q = q
-
--- the state fits its bytes, and at most n lots have made it
-pub record LevelWithin (n : ℕ) (s : LevelState) : Type 0 where
-  pub levels : s .level ≤ 3
-  pub rows : s .row ≤ n
-  pub judgedLots : s .judged ≤ n
-  pub windows : s .window < 32
 
 arrived-within : (n level : ℕ) (s : LevelState) → level ≤ 3 → LevelWithin n s → LevelWithin n (arrived level s)
 unfolding arrived

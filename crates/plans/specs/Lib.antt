@@ -5,4 +5,5 @@ pub mod Severities
 pub mod Tables
 pub mod Stops
 pub mod Levels
+pub mod LevelBounds
 pub mod Continuous

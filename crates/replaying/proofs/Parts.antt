@@ -36,7 +36,8 @@ use Rattle.model.specs.Area.{
 use Rattle.model.proofs.Booleans.{both-true}
 use Rattle.model.proofs.Allowed.{newest-of, count-within, plan-range}
 use Rattle.model.proofs.Keeping.{plan-of, entries-of, opened-admissible, entry-admissible}
-use Rattle.model.proofs.FigureBounds.{FiguresWithin, figures-within}
+use Rattle.model.specs.FigureBounds.{FiguresWithin}
+use Rattle.model.proofs.FigureBounds.{figures-within}
 use Rattle.model.proofs.AreaReading.{
   length-record,
   length-records,

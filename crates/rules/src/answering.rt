@@ -15,7 +15,6 @@ ghost use Rattle.model.specs.Calls.{
   firstOf,
   entryRefusals,
 };
-ghost use Rattle.model.proofs.FigureBounds.{FiguresWithin};
 use crate::asking;
 use crate::plan;
 use model::Answer;

@@ -16,7 +16,7 @@ ghost use Rattle.model.specs.Calls.{
   sizeInRange,
   countsAgree,
 };
-ghost use Rattle.model.proofs.FigureBounds.{FiguresWithin};
+ghost use Rattle.model.specs.FigureBounds.{FiguresWithin};
 use crate::asking;
 use crate::plan;
 use model::Entry;

@@ -2,7 +2,7 @@
 // written from the documents: document 004 (ISO 28593), the example of clause 10, Tables A.1 and A.2; document 000 (ISO 28594),
 // Table D.1.
 ghost use Prim.Native.Nat.{_+_, _≤_, _<_};
-ghost use Rattle.plans.proofs.Bounds.{LevelWithin};
+ghost use Rattle.plans.specs.LevelBounds.{LevelWithin};
 use libc::STDOUT_FILENO;
 use plans::LotSize;
 use plans::credit::Credit;
