@@ -25,7 +25,7 @@ struct Taken {
 }
 
 // 41,728
-pub const STORE_LENGTH: usize = listening::STORE_LENGTH;
+pub const STORE_LENGTH: usize = model::sizes::STORE_LENGTH;
 
 // A frame's 44 digits and one byte more: a longer line is bad however it goes on.
 pub const LINE_ROOM: usize = 45;

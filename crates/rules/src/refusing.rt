@@ -5,6 +5,7 @@ ghost use Prim.Native.Nat.{ℕ, _+_, _-_, _≤_, _<_};
 ghost use Rattle.plans.specs.Verdicts.{lotHeard, lotWithheld};
 ghost use lib.Dec.{T, eqb};
 ghost use Rattle.model.specs.declared.Entry.the-variants.{Lot, Run, Block, Stop};
+ghost use Rattle.model.specs.Sizes.{mostRecords};
 ghost use Rattle.model.specs.Stations.{validPlan, within};
 ghost use Rattle.model.specs.Figuring.{sampleAsked};
 ghost use Rattle.model.specs.Calls.{
@@ -22,16 +23,14 @@ use crate::plan;
 use model::Entry;
 use model::Figures;
 use model::Plan;
+use model::sizes::MOST_RECORDS;
 use plans::continuous;
 use plans::level;
 use plans::verdict;
 
-// So many records an area holds.
-pub const MOST_RECORDS: usize = 128;
-
 // The refusal of an entry.
 pub fn entry(plan: Plan, figures: Figures, count: usize, entry: Entry) -> u32
-    requires { ⌜ T (validPlan plan) × FiguresWithin count figures × (count ≤ 128) ⌝ }
+    requires { ⌜ T (validPlan plan) × FiguresWithin count figures × (count ≤ mostRecords) ⌝ }
     ensures { λ r. ⌜ r ≡ firstOf (entryRefusals plan figures count entry) ⌝ }
 {
     match entry {
@@ -68,7 +67,7 @@ pub fn lot(
     wrong: u32,
     all: u32,
 ) -> u32
-    requires { ⌜ T (validPlan plan) × FiguresWithin count figures × (count ≤ 128) ⌝ }
+    requires { ⌜ T (validPlan plan) × FiguresWithin count figures × (count ≤ mostRecords) ⌝ }
     ensures { λ r. ⌜ r ≡ firstOf (entryRefusals plan figures count (Lot label size sample wrong all)) ⌝ }
 {
     if plan.kind == plan::CONTINUOUS {
