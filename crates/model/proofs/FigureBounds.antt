@@ -6,6 +6,7 @@ use mathlib.Core.List.{List, [], _∷_}
 use native.Mathlib.Omega.{arith}
 use lib.Dec.{T, eqb, ltb, ltb→lt}
 use lib.ListN.{length}
+use Rattle.plans.specs.Limits.{largestLot, largestClearance, largestInterval}
 use Rattle.plans.specs.Verdicts.{acceptedOf, lotAccepted, lotHeard}
 use Rattle.plans.specs.Levels.{judgedLot, metStop}
 use Rattle.plans.specs.Stops.{setUpChanged, longStop}
@@ -28,10 +29,10 @@ use Rattle.model.proofs.Allowed.{AllowedLot, AllowedRun, AllowedBlock, 
 
 -- ---- one lot, run, block or stop
 
-pub lot-size-range : (p : Plan) (N : ℕ) → sizeInRange p N ≡ true → (1 ≤ N) × (N ≤ 1000000)
+pub lot-size-range : (p : Plan) (N : ℕ) → sizeInRange p N ≡ true → (1 ≤ N) × (N ≤ largestLot)
 unfolding sizeInRange
 lot-size-range p N e =
-    let range = within-of (cond (isLevel p) 2 1) 1000000 N e in
+    let range = within-of (cond (isLevel p) 2 1) largestLot N e in
     let least : 1 ≤ cond (isLevel p) 2 1 = either (λ (x : ℕ). 1 ≤ x) (isLevel p) (omega arith) (omega arith) in
     (omega arith, range .1)
 
@@ -54,25 +55,25 @@ level-stop-within p n why days s h =
     either (LevelWithin (suc n)) (isLevel p) (omega arith) (omega arith)
 
 record ContinuousWithin (s : Continuous) : Type 0 where
-  counts : s .count ≤ 10000
+  counts : s .count ≤ largestClearance
   phases : s .phase ≤ 1
-  tails : s .tail ≤ 200
+  tails : s .tail ≤ largestInterval
 
-screening-within : (c : ℕ) → c ≤ 10000 → ContinuousWithin (screening c)
+screening-within : (c : ℕ) → c ≤ largestClearance → ContinuousWithin (screening c)
 unfolding screening
 screening-within c h = omega arith
 
-sampling-within : (u : ℕ) → u ≤ 200 → ContinuousWithin (sampling u)
+sampling-within : (u : ℕ) → u ≤ largestInterval → ContinuousWithin (sampling u)
 unfolding sampling
 sampling-within u h = omega arith
 
-run-within : (i h w : ℕ) (s : Continuous) → s .count + h ≤ 10000 → ContinuousWithin (afterRun i h (eqb w 1) s)
+run-within : (i h w : ℕ) (s : Continuous) → s .count + h ≤ largestClearance → ContinuousWithin (afterRun i h (eqb w 1) s)
 unfolding afterRun
 run-within i h w s fits =
     either ContinuousWithin (eqb w 1) (screening-within 0 (omega arith))
     (either ContinuousWithin (eqb (s .count + h) i) (sampling-within 0 (omega arith)) (screening-within (s .count + h) fits))
 
-block-within : (g q w : ℕ) (s : Continuous) → g ≤ 200 → ContinuousWithin (afterBlock g q (eqb w 1) s .state)
+block-within : (g q w : ℕ) (s : Continuous) → g ≤ largestInterval → ContinuousWithin (afterBlock g q (eqb w 1) s .state)
 unfolding afterBlock
 block-within g q w s most =
     either ContinuousWithin (eqb w 1) (screening-within 0 (omega arith)) (sampling-within (g - q) (omega arith))
@@ -95,10 +96,10 @@ module _ (p : Plan) (f : Figures) (n : ℕ) (known : FiguresWithin n f) where
       → FiguresWithin (suc n) (stepped p (Lot label N m d D) f)
   unfolding stepped creditStep levelStep continuousStep acceptedBy isLot labelOf
   lot-entered label N m d D allowed word =
-      let size : N ≤ 1000000 = lot-size-range p N (allowed .size) .1 in
+      let size : N ≤ largestLot = lot-size-range p N (allowed .size) .1 in
       record {
         credits =
-            either (λ (x : ℕ). x ≤ 1000000 * suc n) (isCredit p)
+            either (λ (x : ℕ). x ≤ largestLot * suc n) (isCredit p)
             (omega (arith, credit-after-at-most (f .credit .0) N d))
             (omega arith);
         levels = level-lot-within p n d (f .level) (known .levels);

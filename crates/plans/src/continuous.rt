@@ -2,6 +2,7 @@
 ghost use mathlib.Core.Path.{_≡_};
 ghost use Prim.Native.Nat.{_+_, _≤_};
 ghost use Rattle.plans.specs.Continuous.{screening, sampling, afterRun, afterBlock, afterStop};
+ghost use Rattle.plans.specs.Limits.{largestClearance, largestInterval};
 
 pub const SCREENING: u8 = 0;
 
@@ -49,7 +50,7 @@ impl Continuous {
 
     // A run in screening: h right detections, then a wrong one if wrong.
     pub fn run(self, clearance: u32, h: u32, wrong: bool) -> Self
-        requires { ⌜ (self .count + h ≤ clearance) × (clearance ≤ 10000) ⌝ }
+        requires { ⌜ (self .count + h ≤ clearance) × (clearance ≤ largestClearance) ⌝ }
         ensures { λ r. ⌜ r ≡ afterRun clearance h wrong self ⌝ }
     {
         if wrong {
@@ -64,7 +65,7 @@ impl Continuous {
 
     // A block in sampling, of which the p-th detection is heard.
     pub fn block(self, interval: u32, p: u32, wrong: bool) -> Block
-        requires { ⌜ (1 ≤ p) × (p ≤ interval) × (interval ≤ 200) ⌝ }
+        requires { ⌜ (1 ≤ p) × (p ≤ interval) × (interval ≤ largestInterval) ⌝ }
         ensures { λ r. ⌜ r ≡ afterBlock interval p wrong self ⌝ }
     {
         if wrong {

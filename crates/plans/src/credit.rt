@@ -10,6 +10,7 @@ ghost use Rattle.plans.specs.Credit.{
   sampleDivisor,
   LeastNotBelow,
 };
+ghost use Rattle.plans.specs.Limits.{largestCredit, largestLot, largestLimit};
 use crate::LotSize;
 use crate::SampleSize;
 use crate::verdict;
@@ -20,7 +21,7 @@ pub struct Credit(pub u32);
 impl Credit {
     // The sample that a lot asks for, where the AOQL is limit millionths: clause 10 a).
     pub fn sample(self, size: LotSize, limit: u32) -> SampleSize
-        requires { ⌜ (self .0 ≤ 128000000) × (1 ≤ size .0) × (size .0 ≤ 1000000) × (limit ≤ 500000) ⌝ }
+        requires { ⌜ (self .0 ≤ largestCredit) × (1 ≤ size .0) × (size .0 ≤ largestLot) × (limit ≤ largestLimit) ⌝ }
         ensures { λ r. ⌜ r .0 ≡ creditSample (self .0) (size .0) limit ⌝ }
         ensures least { λ r. ⌜ LeastNotBelow (sampleDividend (size .0)) (sampleDivisor (self .0) (size .0) limit) (r .0) ⌝ }
         ensures range { λ r. ⌜ (1 ≤ r .0) × (r .0 ≤ size .0) ⌝ }
@@ -48,7 +49,7 @@ impl Credit {
 
     // The credit after a lot with d wrong in its sample: clause 10 b) and c).
     pub fn after(self, size: LotSize, d: u32) -> Credit
-        requires { ⌜ (self .0 ≤ 128000000) × (size .0 ≤ 1000000) ⌝ }
+        requires { ⌜ (self .0 ≤ largestCredit) × (size .0 ≤ largestLot) ⌝ }
         ensures { λ r. ⌜ r .0 ≡ creditAfter (self .0) (size .0) d ⌝ }
     {
         if d == 0 {

@@ -3,6 +3,7 @@ ghost use mathlib.Core.Path.{_≡_};
 ghost use mathlib.Core.Bool.{Bool, true, false};
 ghost use Prim.Native.Nat.{_<_};
 ghost use Rattle.plans.specs.Levels.{levelStart, shifted, withheldIn, arrived, judgedLot, metStop};
+use crate::stops;
 
 pub const REDUCED: u32 = 0;
 
@@ -73,11 +74,11 @@ impl LevelState {
         if self.level != REDUCED {
             return self;
         }
-        if why == 2 {
+        if why == stops::SET_UP_CHANGED {
             self = self.arrive(NORMAL);
             return self;
         }
-        if 3 < days {
+        if stops::SHORT_STOP < days {
             self = self.arrive(NORMAL);
         }
         self

@@ -5,6 +5,7 @@ use mathlib.Core.Bool.{Bool, true, false, cond, not, _||_, and-true}
 use native.Mathlib.Omega.{arith}
 use lib.Dec.{eqb, leb, leb·zero}
 use borrow.Author.Tests.{eqb-true, leb-true}
+use Rattle.plans.specs.Limits.{largestLot}
 use Rattle.plans.specs.Credit.{creditVerdict}
 use Rattle.plans.specs.Verdicts.{lotAccepted, lotHeard, lotWithheld, levelVerdict}
 use Rattle.plans.specs.Tables.{levelSample}
@@ -20,7 +21,7 @@ use Rattle.model.proofs.Allowed.{AllowedLot}
 use Rattle.model.proofs.FigureBounds.{lot-size-range}
 
 -- the size of a lot that passed refusal 11
-pub size-passed : (p : Plan) (N : ℕ) (out : Bool) → out ≡ not (sizeInRange p N) → out ≡ false → (1 ≤ N) × (N ≤ 1000000)
+pub size-passed : (p : Plan) (N : ℕ) (out : Bool) → out ≡ not (sizeInRange p N) → out ≡ false → (1 ≤ N) × (N ≤ largestLot)
 size-passed p N out e passed = lot-size-range p N (not-false-of (sizeInRange p N) (sym e ∙ passed))
 
 -- no sample is larger than its lot

@@ -2,6 +2,7 @@
 ghost use mathlib.Core.Path.{_≡_};
 ghost use Prim.Native.Nat.{_≤_};
 ghost use lib.Dec.{T, eqb};
+ghost use Rattle.plans.specs.Limits.{largestInterval};
 ghost use Rattle.plans.specs.Verdicts.{acceptedOf};
 ghost use Rattle.plans.specs.Continuous.{afterBlock};
 ghost use Rattle.model.specs.Stations.{validPlan};
@@ -110,7 +111,7 @@ fn run(after: Figures, right: u32) -> Answer
 }
 
 fn block(plan: Plan, figures: Figures, after: Figures, heard: u32, wrong: u32) -> Answer
-    requires { ⌜ (1 ≤ heard) × (heard ≤ plan .b) × (plan .b ≤ 200) ⌝ }
+    requires { ⌜ (1 ≤ heard) × (heard ≤ plan .b) × (plan .b ≤ largestInterval) ⌝ }
     ensures { λ r. ⌜ r ≡ givesThese (afterBlock (plan .b) heard (eqb wrong 1) (figures .continuous) .accepted) (afterBlock (plan .b) heard (eqb wrong 1) (figures .continuous) .«hear_back») (after .continuous .phase) ⌝ }
 {
     let heard_block = asking::block(plan, figures, heard, wrong);

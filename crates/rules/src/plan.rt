@@ -3,6 +3,7 @@ ghost use mathlib.Core.Path.{_≡_};
 ghost use Rattle.model.specs.Stations.{validPlan, within as isWithin};
 ghost use mathlib.Core.Bool.{_&&_};
 ghost use lib.Dec.{eqb, leb};
+ghost use Rattle.plans.specs.Limits.{largestClearance, largestInterval};
 ghost use Rattle.model.specs.Figuring.{started as startedFigures};
 ghost use Rattle.rules.specs.Starting.{withLevel};
 use model::Figures;
@@ -10,6 +11,7 @@ use model::Plan;
 use plans::continuous::Continuous;
 use plans::credit::Credit;
 use plans::level::LevelState;
+use plans::limits;
 
 pub const CREDIT: u32 = 1;
 
@@ -23,10 +25,10 @@ pub fn is_valid(plan: Plan) -> bool
 {
     let kind = plan.kind;
     if kind == CREDIT {
-        return is_for_lots(plan, 500000);
+        return is_for_lots(plan, limits::LARGEST_LIMIT);
     }
     if kind == LEVEL {
-        return is_for_lots(plan, 7);
+        return is_for_lots(plan, limits::VERIFICATION_LEVELS);
     }
     if kind == CONTINUOUS {
         return is_for_blocks(plan);
@@ -72,12 +74,12 @@ fn is_for_lots(plan: Plan, most: u32) -> bool
 }
 
 fn is_for_blocks(plan: Plan) -> bool
-    ensures { λ r. ⌜ r ≡ isWithin 1 10000 (plan .a) && isWithin 2 200 (plan .b) && eqb (plan .option) 0 ⌝ }
+    ensures { λ r. ⌜ r ≡ isWithin 1 largestClearance (plan .a) && isWithin 2 largestInterval (plan .b) && eqb (plan .option) 0 ⌝ }
 {
-    if !within(1, 10000, plan.a) {
+    if !within(1, limits::LARGEST_CLEARANCE, plan.a) {
         return false;
     }
-    if !within(2, 200, plan.b) {
+    if !within(2, limits::LARGEST_INTERVAL, plan.b) {
         return false;
     }
     plan.option == 0

@@ -2,6 +2,7 @@
 ghost use mathlib.Core.Path.{_≡_};
 ghost use mathlib.Core.Bool.{not, _&&_, _||_};
 ghost use Prim.Native.Nat.{ℕ, _+_, _-_, _≤_, _<_};
+ghost use Rattle.plans.specs.Limits.{largestLot};
 ghost use Rattle.plans.specs.Verdicts.{lotHeard, lotWithheld};
 ghost use lib.Dec.{T, eqb};
 ghost use Rattle.model.specs.declared.Entry.the-variants.{Lot, Run, Block, Stop};
@@ -26,6 +27,8 @@ use model::Plan;
 use model::sizes::MOST_RECORDS;
 use plans::continuous;
 use plans::level;
+use plans::limits;
+use plans::stops;
 use plans::verdict;
 
 // The refusal of an entry.
@@ -111,7 +114,7 @@ pub fn run(plan: Plan, figures: Figures, count: usize, right: u32, wrong: u32) -
     if MOST_RECORDS <= count {
         return 9;
     }
-    if 10000 < right {
+    if limits::LONGEST_RUN < right {
         return 15;
     }
     if 1 < wrong {
@@ -172,10 +175,10 @@ pub fn stop(plan: Plan, figures: Figures, count: usize, why: u32, days: u32) -> 
     if 2 < why {
         return 15;
     }
-    if 255 < days {
+    if limits::LONGEST_STOP < days {
         return 15;
     }
-    if why != 2 {
+    if why != stops::SET_UP_CHANGED {
         return 0;
     }
     if 0 < days {
@@ -220,14 +223,14 @@ fn is_size_out(plan: Plan, size: u32) -> bool
     ensures { λ r. ⌜ r ≡ not (sizeInRange plan size) ⌝ }
 {
     if plan.kind == plan::LEVEL {
-        return !plan::within(2, 1000000, size);
+        return !plan::within(2, limits::LARGEST_LOT, size);
     }
-    !plan::within(1, 1000000, size)
+    !plan::within(1, limits::LARGEST_LOT, size)
 }
 
 // Whether the counts of a lot agree: what refusal 13 leaves.
 fn do_counts_agree(verdict: u32, size: u32, sample: u32, wrong: u32, all: u32) -> bool
-    requires { ⌜ (sample ≤ size) × (size ≤ 1000000) ⌝ }
+    requires { ⌜ (sample ≤ size) × (size ≤ largestLot) ⌝ }
     ensures { λ r. ⌜ r ≡ countsAgree verdict size sample wrong all ⌝ }
 {
     if sample < wrong {
@@ -251,7 +254,7 @@ fn is_none_missed(wrong: u32, all: u32) -> bool
 
 // The range of all that was found wrong, by the verdict.
 pub fn is_by_verdict(verdict: u32, size: u32, sample: u32, wrong: u32, all: u32) -> bool
-    requires { ⌜ (wrong ≤ sample) × (sample ≤ size) × (size ≤ 1000000) ⌝ }
+    requires { ⌜ (wrong ≤ sample) × (sample ≤ size) × (size ≤ largestLot) ⌝ }
     ensures { λ r. ⌜ r ≡ (not (eqb verdict lotHeard) || within wrong (size - sample + wrong) all) && (not (eqb verdict lotWithheld) || eqb all wrong) ⌝ }
 {
     if verdict == verdict::HEARD {
