@@ -32,11 +32,11 @@ impl Credit {
         SampleSize(rounded_up(dividend, divisor) as u32)
     }
 
-    // The verdict on a lot with d wrong in its sample: clause 10 b) and c).
-    pub fn verdict(self, hear_all: bool, d: u32) -> u32
-        ensures { λ r. ⌜ r ≡ creditVerdict (self .0) «hear_all» d ⌝ }
+    // The verdict on a lot with so many wrong in its sample: clause 10 b) and c).
+    pub fn verdict(self, hear_all: bool, wrong: u32) -> u32
+        ensures { λ r. ⌜ r ≡ creditVerdict (self .0) «hear_all» wrong ⌝ }
     {
-        if d == 0 {
+        if wrong == 0 {
             verdict::ACCEPTED
         } else if self.0 == 0 {
             verdict::HEARD
@@ -47,12 +47,12 @@ impl Credit {
         }
     }
 
-    // The credit after a lot with d wrong in its sample: clause 10 b) and c).
-    pub fn after(self, size: LotSize, d: u32) -> Credit
+    // The credit after a lot with so many wrong in its sample: clause 10 b) and c).
+    pub fn after(self, size: LotSize, wrong: u32) -> Credit
         requires { ⌜ (self .0 ≤ largestCredit) × (size .0 ≤ largestLot) ⌝ }
-        ensures { λ r. ⌜ r .0 ≡ creditAfter (self .0) (size .0) d ⌝ }
+        ensures { λ r. ⌜ r .0 ≡ creditAfter (self .0) (size .0) wrong ⌝ }
     {
-        if d == 0 {
+        if wrong == 0 {
             Credit(self.0 + size.0)
         } else {
             Credit(0)

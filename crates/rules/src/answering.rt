@@ -94,12 +94,19 @@ fn lot_figure(plan: Plan, figures: Figures) -> u32
     state.level
 }
 
-fn lot(plan: Plan, figures: Figures, after: Figures, size: u32, wrong: u32, all: u32) -> Answer
-    requires { ⌜ all ≤ size ⌝ }
-    ensures { λ r. ⌜ r ≡ givesThese (verdictOn plan figures wrong) (acceptedOf (verdictOn plan figures wrong) size all) (lotFigure plan after) ⌝ }
+fn lot(
+    plan: Plan,
+    figures: Figures,
+    after: Figures,
+    size: u32,
+    wrong: u32,
+    wrong_in_all: u32,
+) -> Answer
+    requires { ⌜ «wrong_in_all» ≤ size ⌝ }
+    ensures { λ r. ⌜ r ≡ givesThese (verdictOn plan figures wrong) (acceptedOf (verdictOn plan figures wrong) size «wrong_in_all») (lotFigure plan after) ⌝ }
 {
     let verdict = asking::verdict(plan, figures, wrong);
-    let accepted = verdict::accepted_of(verdict, LotSize(size), all);
+    let accepted = verdict::accepted_of(verdict, LotSize(size), wrong_in_all);
     gives(verdict, accepted, lot_figure(plan, after))
 }
 

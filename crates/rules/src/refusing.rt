@@ -68,10 +68,10 @@ pub fn lot(
     size: u32,
     sample: u32,
     wrong: u32,
-    all: u32,
+    wrong_in_all: u32,
 ) -> u32
     requires { ⌜ T (validPlan plan) × FiguresWithin count figures × (count ≤ mostRecords) ⌝ }
-    ensures { λ r. ⌜ r ≡ firstOf (entryRefusals plan figures count (Lot label size sample wrong all)) ⌝ }
+    ensures { λ r. ⌜ r ≡ firstOf (entryRefusals plan figures count (Lot label size sample wrong «wrong_in_all»)) ⌝ }
 {
     if plan.kind == plan::CONTINUOUS {
         return 7;
@@ -96,7 +96,7 @@ pub fn lot(
         size,
         sample,
         wrong,
-        all,
+        wrong_in_all,
     ) {
         return 0;
     }
@@ -229,39 +229,39 @@ fn is_size_out(plan: Plan, size: u32) -> bool
 }
 
 // Whether the counts of a lot agree: what refusal 13 leaves.
-fn do_counts_agree(verdict: u32, size: u32, sample: u32, wrong: u32, all: u32) -> bool
+fn do_counts_agree(verdict: u32, size: u32, sample: u32, wrong: u32, wrong_in_all: u32) -> bool
     requires { ⌜ (sample ≤ size) × (size ≤ largestLot) ⌝ }
-    ensures { λ r. ⌜ r ≡ countsAgree verdict size sample wrong all ⌝ }
+    ensures { λ r. ⌜ r ≡ countsAgree verdict size sample wrong «wrong_in_all» ⌝ }
 {
     if sample < wrong {
         return false;
     }
-    if is_none_missed(wrong, all) {
-        return is_by_verdict(verdict, size, sample, wrong, all);
+    if is_none_missed(wrong, wrong_in_all) {
+        return is_by_verdict(verdict, size, sample, wrong, wrong_in_all);
     }
     false
 }
 
 // Without a wrong one in the sample there is none in all that was heard.
-fn is_none_missed(wrong: u32, all: u32) -> bool
-    ensures { λ r. ⌜ r ≡ not (eqb wrong 0) || eqb all 0 ⌝ }
+fn is_none_missed(wrong: u32, wrong_in_all: u32) -> bool
+    ensures { λ r. ⌜ r ≡ not (eqb wrong 0) || eqb «wrong_in_all» 0 ⌝ }
 {
     if wrong == 0 {
-        return all == 0;
+        return wrong_in_all == 0;
     }
     true
 }
 
 // The range of all that was found wrong, by the verdict.
-pub fn is_by_verdict(verdict: u32, size: u32, sample: u32, wrong: u32, all: u32) -> bool
+pub fn is_by_verdict(verdict: u32, size: u32, sample: u32, wrong: u32, wrong_in_all: u32) -> bool
     requires { ⌜ (wrong ≤ sample) × (sample ≤ size) × (size ≤ largestLot) ⌝ }
-    ensures { λ r. ⌜ r ≡ (not (eqb verdict lotHeard) || within wrong (size - sample + wrong) all) && (not (eqb verdict lotWithheld) || eqb all wrong) ⌝ }
+    ensures { λ r. ⌜ r ≡ (not (eqb verdict lotHeard) || within wrong (size - sample + wrong) «wrong_in_all») && (not (eqb verdict lotWithheld) || eqb «wrong_in_all» wrong) ⌝ }
 {
     if verdict == verdict::HEARD {
-        return plan::within(wrong, size - sample + wrong, all);
+        return plan::within(wrong, size - sample + wrong, wrong_in_all);
     }
     if verdict == verdict::WITHHELD {
-        return all == wrong;
+        return wrong_in_all == wrong;
     }
     true
 }
