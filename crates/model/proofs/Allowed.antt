@@ -26,6 +26,7 @@ use Rattle.model.specs.Calls.{
   sizeInRange,
   countsAgree,
   entryRefusals,
+  accepts,
   admissible,
 }
 use Rattle.model.proofs.Booleans.{holds-of, both-of, neither-of, not-false-of, within-of}
@@ -166,7 +167,7 @@ pub record Newest (p : Plan) (e : Entry) (es : List Entry) : Type 0 where
   pub words : T (allWords (entryArguments e))
 
 pub newest-of : (p : Plan) (e : Entry) (es : List Entry) → T (admissible p (e ∷ es)) → Newest p e es
-unfolding admissible
+unfolding admissible accepts
 newest-of p e es t =
     let refusal : ℕ = firstOf (entryRefusals p (figuresOf p es) (length es) e) in
     let outer = both-of (admissible p es && eqb refusal 0) (allWords (entryArguments e)) t in

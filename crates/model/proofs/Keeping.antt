@@ -15,7 +15,7 @@ use Rattle.model.specs.declared.Call.the-variants.{Open, Enter, Back, As
 use Rattle.model.specs.declared.Figures.{Figures}
 use Rattle.model.specs.Stations.{Station, unopened, opened, validPlan, arguments, entryArguments, allWords}
 use Rattle.model.specs.Figuring.{figuresOf}
-use Rattle.model.specs.Calls.{firstOf, entryRefusals, refusals, refusalOf, refused, entryAnswer, answerOf, withoutNewest, changed, call, admissible, admissibleStation}
+use Rattle.model.specs.Calls.{firstOf, entryRefusals, refusals, refusalOf, refused, entryAnswer, answerOf, withoutNewest, changed, call, accepts, admissible, admissibleStation}
 use Rattle.model.proofs.Booleans.{both, both-of, holds-of, of-holds, not-false-of}
 use Rattle.model.proofs.Allowed.{passed, newest-of, plan-range}
 
@@ -71,11 +71,11 @@ none-admissible p = tt
 pub entry-admissible : (p : Plan) (es : List Entry) (e : Entry) → T (admissible p es)
     → firstOf (entryRefusals p (figuresOf p es) (length es) e) ≡ 0 → T (allWords (entryArguments e))
     → T (admissible p (e ∷ es))
-unfolding admissible
+unfolding admissible accepts
 entry-admissible p es e h r w =
-    both (admissible p es && eqb (firstOf (entryRefusals p (figuresOf p es) (length es) e)) 0) (allWords (entryArguments e))
-    (both (admissible p es) (eqb (firstOf (entryRefusals p (figuresOf p es) (length es) e)) 0) h
-    (of-holds _ (eq-eqb (firstOf (entryRefusals p (figuresOf p es) (length es) e)) 0 r)))
+    let accepted : Bool = accepts p (figuresOf p es) (length es) e in
+    both (admissible p es && accepted) (allWords (entryArguments e))
+    (both (admissible p es) accepted h (of-holds accepted (eq-eqb (firstOf (entryRefusals p (figuresOf p es) (length es) e)) 0 r)))
     w
 
 pub plan-of : (p : Plan) (es : List Entry) → T (admissibleStation (opened p es)) → T (validPlan p)

@@ -86,7 +86,11 @@ entryRefusals p f count (Stop why days) =
     ∷ refuse 15 (not (within 1 2 why) || ltb longestStop days || (eqb why 2 && ltb 0 days))
     ∷ []
 
--- those of an ask
+-- such a call is accepted
+unfoldable pub accepts : Plan → Figures → ℕ → Entry → Bool
+accepts p f count e = eqb (firstOf (entryRefusals p f count e)) 0
+
+-- the refusals of an ask
 unfoldable pub askRefusals : Plan → Figures → ℕ → List Refusal
 askRefusals p f N =
     refuse 7 (isContinuous p) ∷ refuse 8 (isDiscontinued f) ∷ refuse 11 (not (sizeInRange p N)) ∷ []
@@ -189,7 +193,7 @@ call st c =
 unfoldable pub admissible : Plan → List Entry → Bool
 admissible p [] = true
 admissible p (e ∷ es) =
-    admissible p es && eqb (firstOf (entryRefusals p (figuresOf p es) (length es) e)) 0 && allWords (entryArguments e)
+    admissible p es && accepts p (figuresOf p es) (length es) e && allWords (entryArguments e)
 
 unfoldable pub admissibleStation : Station → Bool
 admissibleStation unopened = true

@@ -9,10 +9,9 @@ use Rattle.model.specs.declared.Plan.{Plan}
 use Rattle.model.specs.declared.Entry.the-variants.{Run, Block, Stop}
 use Rattle.model.specs.declared.Figures.{Figures}
 use Rattle.model.specs.Stations.{isContinuous, within}
-use Rattle.model.specs.Calls.{firstOf, entryRefusals, isDiscontinued, isFull}
+use Rattle.model.specs.Calls.{firstOf, entryRefusals, isDiscontinued, isFull, accepts}
 use Rattle.model.proofs.Booleans.{both-true, neither-of, not-false-of, never-both}
 use Rattle.model.proofs.Allowed.{AllowedRun, AllowedBlock, allowed-lot, allowed-run, allowed-block, passed}
-use Rattle.rules.specs.Replayed.{accepts}
 use Rattle.records.specs.declared.Record.{Record}
 use Rattle.replaying.specs.Replaying.{headOf, isStop, entryOf, wellFormed, stands, entered, unsoundAt, NoMore}
 use Rattle.replaying.proofs.Answers.{lot-of, run-of, block-of, stop-of, accepted-zero, no-more}

@@ -9,10 +9,9 @@ use Rattle.model.specs.declared.Entry.{Entry}
 use Rattle.model.specs.declared.Figures.{Figures}
 use Rattle.model.specs.Figuring.{stepped, sampleAsked}
 use Rattle.model.specs.declared.Entry.the-variants.{Lot, Run, Block, Stop}
-use Rattle.model.specs.Calls.{firstOf, entryRefusals}
+use Rattle.model.specs.Calls.{firstOf, entryRefusals, accepts}
 use Rattle.model.proofs.Booleans.{both-true, not-false-of}
 use Rattle.records.specs.declared.Record.{Record}
-use Rattle.rules.specs.Replayed.{accepts}
 use Rattle.replaying.specs.Replaying.{entryOf, wellFormed, stands, entered, soundAt, unsoundAt, NoMore}
 
 module _ (p : Plan) (f : Figures) (i : ℕ) (r : Record) where
