@@ -6,7 +6,7 @@ use mathlib.Core.List.{List, [], _∷_}
 use native.Mathlib.Omega.{arith}
 use lib.Dec.{T, eqb, ltb, leb, eqb→eq, leb→le}
 use lib.ListN.{length}
-use borrow.Author.Tests.{ltb-false, leb-false, eqb-true, eqb-false}
+use borrow.Author.Tests.{ltb-false, leb-false, eqb-true, eqb-false, not-false}
 use Rattle.plans.specs.Limits.{largestLimit, verificationLevels, largestClearance, largestInterval, longestRun, longestStop}
 use Rattle.plans.specs.Continuous.{isSampling}
 use Rattle.model.specs.declared.Plan.{Plan}
@@ -29,7 +29,7 @@ use Rattle.model.specs.Calls.{
   accepts,
   admissible,
 }
-use Rattle.model.proofs.Booleans.{holds-of, both-of, neither-of, not-false-of, within-of}
+use Rattle.model.proofs.Booleans.{holds-of, both-of, neither-of, within-of}
 
 -- where none is given, the first does not apply, and none of the rest is given
 pub passed : (n : ℕ) (applies : Bool) (rs : List Refusal) → 0 < n → firstOf (refuse n applies ∷ rs) ≡ 0
@@ -92,9 +92,9 @@ module _ (p : Plan) (f : Figures) (count : ℕ) where
         running = eight .0;
         room = room-of (nine .0);
         otherLabel = ten .0;
-        size = not-false-of _ (eleven .0);
-        sample = eqb-true n (sampleAsked p f N) (not-false-of _ (twelve .0));
-        counts = not-false-of _ (thirteen .0);
+        size = not-false _ (eleven .0);
+        sample = eqb-true n (sampleAsked p f N) (not-false _ (twelve .0));
+        counts = not-false _ (thirteen .0);
       }
 
   pub allowed-run : (h w : ℕ) → firstOf (entryRefusals p f count (Run h w)) ≡ 0 → AllowedRun p f count h w
@@ -109,7 +109,7 @@ module _ (p : Plan) (f : Figures) (count : ℕ) where
       let state = neither-of (isSampling (f .continuous)) (ltb (p .a) (f .continuous .count + h + w)) (fourteen .0) in
       let nonzero : h + w ≡ 0 → ⊥ = eqb-false (h + w) 0 (range .1) in
       record {
-        continuous = not-false-of _ (seven .0);
+        continuous = not-false _ (seven .0);
         room = room-of (nine .0);
         right = ltb-false longestRun h (ranges .0);
         wrong = ltb-false 1 w (ranges .1);
@@ -126,14 +126,14 @@ module _ (p : Plan) (f : Figures) (count : ℕ) where
       let fifteen = passed 15 _ _ (omega arith) (nine .1) in
       let fourteen = passed 14 _ _ (omega arith) (fifteen .1) in
       let range = neither-of (not (within 1 (p .b) q)) (ltb 1 w) (fifteen .0) in
-      let heard = within-of 1 (p .b) q (not-false-of _ (range .0)) in
+      let heard = within-of 1 (p .b) q (not-false _ (range .0)) in
       record {
-        continuous = not-false-of _ (seven .0);
+        continuous = not-false _ (seven .0);
         room = room-of (nine .0);
         first = heard .0;
         last = heard .1;
         wrong = ltb-false 1 w (range .1);
-        sampled = not-false-of _ (fourteen .0);
+        sampled = not-false _ (fourteen .0);
       }
 
   pub allowed-stop : (why days : ℕ) → firstOf (entryRefusals p f count (Stop why days)) ≡ 0 → AllowedStop f count why days
@@ -144,7 +144,7 @@ module _ (p : Plan) (f : Figures) (count : ℕ) where
       let fifteen = passed 15 _ _ (omega arith) (nine .1) in
       let range = neither-of (not (within 1 2 why) || ltb longestStop days) (eqb why 2 && ltb 0 days) (fifteen .0) in
       let ranges = neither-of (not (within 1 2 why)) (ltb longestStop days) (range .0) in
-      let reason = within-of 1 2 why (not-false-of _ (ranges .0)) in
+      let reason = within-of 1 2 why (not-false _ (ranges .0)) in
       record {
         running = eight .0;
         room = room-of (nine .0);

@@ -15,7 +15,7 @@ use Rattle.plans.specs.Stops.{setUpChanged, longStop}
 use Rattle.plans.specs.Continuous.{screening, sampling, isSampling, afterRun, afterBlock, afterStop}
 use Rattle.plans.specs.declared.level.LevelState.{LevelState}
 use Rattle.plans.specs.declared.continuous.Continuous.{Continuous}
-use Rattle.plans.proofs.Bounds.{either}
+use Rattle.plans.proofs.Booleans.{either}
 use Rattle.model.specs.declared.Plan.{Plan}
 use Rattle.model.specs.declared.Entry.{Entry}
 use Rattle.model.specs.declared.Entry.the-variants.{Lot, Run, Block, Stop}

@@ -1,6 +1,6 @@
 -- How far the standing entries can take a stream's figures: what keeps the figures in their bytes. Assumes nothing.
 use Prim.Native.Nat.{ℕ, suc, _+_, _*_, _-_, _^_, _≤_, _<_}
-use mathlib.Core.Path.{_≡_}
+use mathlib.Core.Path.{_≡_, refl}
 use mathlib.Core.Bool.{true, cond, _&&_, _||_}
 use mathlib.Core.List.{List, [], _∷_}
 use native.Mathlib.Omega.{arith}
@@ -14,7 +14,8 @@ use Rattle.plans.specs.Continuous.{screening, sampling, isSampling, afterRun, a
 use Rattle.plans.specs.declared.level.LevelState.{LevelState}
 use Rattle.plans.specs.declared.continuous.Continuous.{Continuous}
 use Rattle.plans.specs.LevelBounds.{LevelWithin}
-use Rattle.plans.proofs.Bounds.{either, judged-lot-within, met-stop-within, start-within}
+use Rattle.plans.proofs.Booleans.{either}
+use Rattle.plans.proofs.LevelBounds.{judged-lot-within, met-stop-within, start-within}
 use Rattle.plans.proofs.RoundedUp.{credit-after-at-most}
 use Rattle.model.specs.declared.Plan.{Plan}
 use Rattle.model.specs.declared.Entry.{Entry}
@@ -110,49 +111,44 @@ module _ (p : Plan) (f : Figures) (n : ℕ) (known : FiguresWithin n f) where
         labels = word;
       }
 
+  -- an entry that is no lot leaves the credit and the label
+  no-lot-entered : (after : Figures) → after .credit .0 ≡ f .credit .0 → after .label ≡ f .label
+      → LevelWithin (suc n) (after .level) → ContinuousWithin (after .continuous) → after .accepted ≤ f .accepted + largestLot
+      → FiguresWithin (suc n) after
+  no-lot-entered after credit label level continuous accepted =
+      record {
+        credits = omega arith;
+        levels = level;
+        counts = continuous .counts;
+        phases = continuous .phases;
+        tails = continuous .tails;
+        acceptedIn = omega arith;
+        labels = omega arith;
+      }
+
   run-entered : T (validPlan p) → (h w : ℕ) → AllowedRun p f n h w → FiguresWithin (suc n) (stepped p (Run h w) f)
   unfolding stepped creditStep levelStep continuousStep acceptedBy isLot
   run-entered valid h w allowed =
       let plan = continuous-plan p valid (allowed .continuous) in
-      let after = run-within (p .a) h w (f .continuous) (omega arith) in
-      record {
-        credits = omega arith;
-        levels = omega arith;
-        counts = after .counts;
-        phases = after .phases;
-        tails = after .tails;
-        acceptedIn = omega arith;
-        labels = known .labels;
-      }
+      no-lot-entered (stepped p (Run h w) f) refl refl (omega arith)
+      (run-within (p .a) h w (f .continuous) (omega arith))
+      (omega arith)
 
   block-entered : T (validPlan p) → (q w : ℕ) → AllowedBlock p f n q w → FiguresWithin (suc n) (stepped p (Block q w) f)
   unfolding stepped creditStep levelStep continuousStep acceptedBy isLot
   block-entered valid q w allowed =
       let plan = continuous-plan p valid (allowed .continuous) in
-      let after = block-within (p .b) q w (f .continuous) (plan .intervalMost) in
-      record {
-        credits = omega arith;
-        levels = omega arith;
-        counts = after .counts;
-        phases = after .phases;
-        tails = after .tails;
-        acceptedIn = omega (arith, block-accepts (p .b) q w (f .continuous) (allowed .last));
-        labels = known .labels;
-      }
+      no-lot-entered (stepped p (Block q w) f) refl refl (omega arith)
+      (block-within (p .b) q w (f .continuous) (plan .intervalMost))
+      (omega (arith, block-accepts (p .b) q w (f .continuous) (allowed .last)))
 
   stop-entered : (why days : ℕ) → FiguresWithin (suc n) (stepped p (Stop why days) f)
   unfolding stepped creditStep levelStep continuousStep acceptedBy isLot
   stop-entered why days =
-      let after = stop-within p why days (f .continuous) (omega arith) in
-      record {
-        credits = omega arith;
-        levels = level-stop-within p n why days (f .level) (known .levels);
-        counts = after .counts;
-        phases = after .phases;
-        tails = after .tails;
-        acceptedIn = omega arith;
-        labels = known .labels;
-      }
+      no-lot-entered (stepped p (Stop why days) f) refl refl
+      (level-stop-within p n why days (f .level) (known .levels))
+      (stop-within p why days (f .continuous) (omega arith))
+      (omega arith)
 
 -- an accepted entry with 32-bit arguments
 pub stepped-within : (p : Plan) (e : Entry) (f : Figures) (n : ℕ) → T (validPlan p) → firstOf (entryRefusals p f n e) ≡ 0

@@ -19,7 +19,7 @@ use lib.Dec.{eqb}
 use borrow.Author.Tests.{eqb-true, eqb-false}
 use Rattle.plans.specs.Credit.{roundedUp, LeastNotBelow, sampleDividend, sampleDivisor, creditSample, creditAfter}
 use Rattle.plans.specs.Limits.{largestLot, largestCredit, largestLimit}
-use Rattle.plans.proofs.Bounds.{either}
+use Rattle.plans.proofs.Booleans.{either}
 
 module _ (a b : ℕ) (positive : 0 < b) where
   pub rounded-up-least : LeastNotBelow a b (roundedUp a b)

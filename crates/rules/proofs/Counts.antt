@@ -4,25 +4,25 @@ use mathlib.Core.Path.{_≡_, refl, sym, _∙_}
 use mathlib.Core.Bool.{Bool, true, false, cond, not, _||_, and-true}
 use native.Mathlib.Omega.{arith}
 use lib.Dec.{eqb, leb, leb·zero}
-use borrow.Author.Tests.{eqb-true, leb-true}
+use borrow.Author.Tests.{eqb-true, leb-true, not-false}
 use Rattle.plans.specs.Limits.{largestLot}
 use Rattle.plans.specs.Credit.{creditVerdict}
 use Rattle.plans.specs.Verdicts.{lotAccepted, lotHeard, lotWithheld, levelVerdict}
 use Rattle.plans.specs.Tables.{levelSample}
-use Rattle.plans.proofs.Bounds.{either}
+use Rattle.plans.proofs.Booleans.{either}
 use Rattle.plans.proofs.RoundedUp.{credit-sample-at-most}
 use Rattle.model.specs.declared.Plan.{Plan}
 use Rattle.model.specs.declared.Figures.{Figures}
 use Rattle.model.specs.Stations.{isCredit, hasOption, within}
 use Rattle.model.specs.Figuring.{sampleAsked, verdictOn}
 use Rattle.model.specs.Calls.{countsAgree, sizeInRange}
-use Rattle.model.proofs.Booleans.{both-true, within-of, never-both, not-false-of}
+use Rattle.model.proofs.Booleans.{both-true, within-of, never-both}
 use Rattle.model.proofs.Allowed.{AllowedLot}
 use Rattle.model.proofs.FigureBounds.{lot-size-range}
 
 -- the size of a lot that passed refusal 11
 pub size-passed : (p : Plan) (N : ℕ) (out : Bool) → out ≡ not (sizeInRange p N) → out ≡ false → (1 ≤ N) × (N ≤ largestLot)
-size-passed p N out e passed = lot-size-range p N (not-false-of (sizeInRange p N) (sym e ∙ passed))
+size-passed p N out e passed = lot-size-range p N (not-false (sizeInRange p N) (sym e ∙ passed))
 
 -- no sample is larger than its lot
 pub sample-at-most : (p : Plan) (f : Figures) (N : ℕ) → sampleAsked p f N ≤ N

@@ -23,11 +23,7 @@ use Rattle.plans.specs.LevelBounds.{LevelWithin}
 use Rattle.plans.specs.Severities.{reduced, normal, tightened}
 use Rattle.plans.specs.Stops.{setUpChanged, longStop}
 use Rattle.plans.specs.declared.level.LevelState.{LevelState}
-
--- what holds on either side of a test holds of what it picks
-pub either : {A : Type 0} (P : A → Type 0) (b : Bool) {x y : A} → P x → P y → P (cond b x y)
-either P true p q = p
-either P false p q = q
+use Rattle.plans.proofs.Booleans.{either}
 
 arrived-within : (n level : ℕ) (s : LevelState) → level ≤ 3 → LevelWithin n s → LevelWithin n (arrived level s)
 unfolding arrived
