@@ -2,6 +2,7 @@
 ghost use mathlib.Core.Path.{_≡_};
 ghost use mathlib.Core.Bool.{Bool, true, false};
 ghost use Prim.Native.Nat.{_<_};
+ghost use Rattle.plans.specs.Severities.{normal, tightened};
 ghost use Rattle.plans.specs.Levels.{levelStart, shifted, withheldIn, arrived, judgedLot, metStop};
 use crate::stops;
 
@@ -86,7 +87,7 @@ impl LevelState {
 
     // An accepted lot on normal: two withheld ones in the window lead to tightened, ten accepted in a row to reduced.
     fn accept_on_normal(mut self, permits_reduced: bool) -> Self
-        requires { ⌜ (self .level ≡ 1) × (self .row < 255) ⌝ }
+        requires { ⌜ (self .level ≡ normal) × (self .row < 255) ⌝ }
         ensures { λ r. ⌜ r ≡ judgedLot «permits_reduced» false self ⌝ }
     {
         self.window = shift_in(self.window, false);
@@ -105,7 +106,7 @@ impl LevelState {
 
     // An accepted lot on tightened: the fifth in a row leads to normal, else the tenth lot judged there ends the stream.
     fn accept_on_tightened(mut self) -> Self
-        requires { ⌜ (self .level ≡ 2) × (self .row < 255) × (self .judged < 255) ⌝ }
+        requires { ⌜ (self .level ≡ tightened) × (self .row < 255) × (self .judged < 255) ⌝ }
         ensures { λ r. ⌜ ((permits : Bool) → r ≡ judgedLot permits false self) ⌝ }
     {
         self.window = shift_in(self.window, false);
@@ -122,7 +123,7 @@ impl LevelState {
 
     // An accepted lot on reduced, which moves nothing. (None is judged where the stream is discontinued.)
     fn accept_elsewhere(mut self) -> Self
-        requires { ⌜ (self .level ≡ 1 → ⊥) × (self .level ≡ 2 → ⊥) × (self .row < 255) ⌝ }
+        requires { ⌜ (self .level ≡ normal → ⊥) × (self .level ≡ tightened → ⊥) × (self .row < 255) ⌝ }
         ensures { λ r. ⌜ ((permits : Bool) → r ≡ judgedLot permits false self) ⌝ }
     {
         self.window = shift_in(self.window, false);

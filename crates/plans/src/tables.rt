@@ -1,7 +1,6 @@
 // Code letters and sample sizes: document 000 (ISO 28594), Tables 1 and 2.
 ghost use mathlib.Core.Path.{_≡_};
 ghost use Prim.Native.Nat.{_≤_, _<_, _-_};
-ghost use lib.ListN.{getD};
 ghost use Rattle.plans.specs.Tables.{table1, lettersIn, codeLetter, columnAt, tabled, levelSample};
 ghost use Rattle.plans.specs.Limits.{verificationLevels};
 use crate::LotSize;

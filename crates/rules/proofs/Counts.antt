@@ -1,13 +1,13 @@
 -- A lot's counts: what refusal 13 leaves. Assumes nothing.
 use Prim.Native.Nat.{ℕ, _+_, _-_, _≤_}
 use mathlib.Core.Path.{_≡_, refl, sym, _∙_}
-use mathlib.Core.Bool.{Bool, true, false, cond, not, _||_, and-true}
+use mathlib.Core.Bool.{Bool, true, false, not, _||_}
 use native.Mathlib.Omega.{arith}
-use lib.Dec.{eqb, leb, leb·zero}
+use lib.Dec.{eqb, leb}
 use borrow.Author.Tests.{eqb-true, leb-true, not-false}
 use Rattle.plans.specs.Limits.{largestLot}
 use Rattle.plans.specs.Credit.{creditVerdict}
-use Rattle.plans.specs.Verdicts.{lotAccepted, lotHeard, lotWithheld, levelVerdict}
+use Rattle.plans.specs.Verdicts.{lotHeard, lotWithheld, levelVerdict}
 use Rattle.plans.specs.Tables.{levelSample}
 use Rattle.plans.proofs.Booleans.{either}
 use Rattle.plans.proofs.RoundedUp.{credit-sample-at-most}

@@ -60,6 +60,7 @@ pub fn within(low: u32, high: u32, n: u32) -> bool
     n <= high
 }
 
+// What refusal 5 leaves of a plan for lots, whose A is at most so large.
 fn is_for_lots(plan: Plan, most: u32) -> bool
     ensures { λ r. ⌜ r ≡ isWithin 1 most (plan .a) && eqb (plan .b) 0 && leb (plan .option) 1 ⌝ }
 {
@@ -72,6 +73,7 @@ fn is_for_lots(plan: Plan, most: u32) -> bool
     plan.option <= 1
 }
 
+// What refusal 5 leaves of a continuous plan.
 fn is_for_blocks(plan: Plan) -> bool
     ensures { λ r. ⌜ r ≡ isWithin 1 largestClearance (plan .a) && isWithin 2 largestInterval (plan .b) && eqb (plan .option) 0 ⌝ }
 {
@@ -84,6 +86,7 @@ fn is_for_blocks(plan: Plan) -> bool
     plan.option == 0
 }
 
+// The figures of a new stream with this level state; those foreign to its plan are zero.
 fn with_level(level: LevelState) -> Figures
     ensures { λ r. ⌜ r ≡ withLevel level ⌝ }
 {

@@ -1,14 +1,13 @@
 // Which refusal a call gets on an opened stream: paper 01, "Calls", each list of refusals in the paper's order.
 ghost use mathlib.Core.Path.{_≡_};
 ghost use mathlib.Core.Bool.{not, _&&_, _||_};
-ghost use Prim.Native.Nat.{ℕ, _+_, _-_, _≤_, _<_};
+ghost use Prim.Native.Nat.{_+_, _-_, _≤_, _<_};
 ghost use Rattle.plans.specs.Limits.{largestLot};
 ghost use Rattle.plans.specs.Verdicts.{lotHeard, lotWithheld};
 ghost use lib.Dec.{T, eqb};
 ghost use Rattle.model.specs.declared.Entry.the-variants.{Lot, Run, Block, Stop};
 ghost use Rattle.model.specs.Sizes.{mostRecords};
 ghost use Rattle.model.specs.Stations.{validPlan, within};
-ghost use Rattle.model.specs.Figuring.{sampleAsked};
 ghost use Rattle.model.specs.Calls.{
   firstOf,
   entryRefusals,
