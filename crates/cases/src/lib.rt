@@ -3,7 +3,7 @@ ghost use mathlib.Core.Path.{_≡_};
 ghost use Prim.Native.Nat.{_≤_};
 ghost use Rattle.cases.specs.Cases.{creditCases, levelCases, continuousCases, statedIn, ProvedCases};
 ghost use Rattle.plans.specs.Credit.{creditSample};
-ghost use Rattle.plans.specs.Limits.{largestCredit, largestLot, largestLimit, verificationLevels};
+ghost use Rattle.plans.specs.Limits.{largestCredit, largestLot, largestAoql, verificationLevels};
 ghost use Rattle.plans.specs.Tables.{levelSample};
 use plans::LotSize;
 use plans::continuous::Continuous;
@@ -54,7 +54,7 @@ pub fn continuous_cases() -> [u32; 2]
 }
 
 fn credit_sample(credit: u32, size: u32, limit: u32) -> u32
-    requires { ⌜ (credit ≤ largestCredit) × (1 ≤ size) × (size ≤ largestLot) × (limit ≤ largestLimit) ⌝ }
+    requires { ⌜ (credit ≤ largestCredit) × (1 ≤ size) × (size ≤ largestLot) × (limit ≤ largestAoql) ⌝ }
     ensures { λ r. ⌜ r ≡ creditSample credit size limit ⌝ }
 {
     Credit(credit).sample(LotSize(size), limit).0

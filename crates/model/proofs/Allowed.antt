@@ -7,7 +7,7 @@ use native.Mathlib.Omega.{arith}
 use lib.Dec.{T, eqb, ltb, leb, eqb→eq, leb→le}
 use lib.ListN.{length}
 use borrow.Author.Tests.{ltb-false, leb-false, eqb-true, eqb-false, not-false}
-use Rattle.plans.specs.Limits.{largestLimit, verificationLevels, largestClearance, largestInterval, longestRun, longestStop}
+use Rattle.plans.specs.Limits.{largestAoql, verificationLevels, largestClearance, largestInterval, longestRun, longestStop}
 use Rattle.plans.specs.Continuous.{isSampling}
 use Rattle.model.specs.declared.Plan.{Plan}
 use Rattle.model.specs.declared.Entry.{Entry}
@@ -74,7 +74,7 @@ pub record AllowedStop (f : Figures) (count why days : ℕ) : Type 0 where
 module _ (p : Plan) (f : Figures) (count : ℕ) where
   room-of : isFull count ≡ false → count < mostRecords
   unfolding isFull
-  room-of e = leb-false mostRecords count e
+  room-of e = omega (arith, leb-false _ count e)
 
   pub allowed-lot : (label N n d D : ℕ) → firstOf (entryRefusals p f count (Lot label N n d D)) ≡ 0
       → AllowedLot p f count label N n d D
@@ -183,7 +183,7 @@ pub record PlanRange (p : Plan) : Type 0 where
   pub kindFrom : 1 ≤ p .kind
   pub kindTo : p .kind ≤ 3
   pub optionTo : p .option ≤ 1
-  pub aTo : p .a ≤ largestLimit
+  pub aTo : p .a ≤ largestAoql
   pub bTo : p .b ≤ largestInterval
 
 -- those of a plan for lots
@@ -218,7 +218,7 @@ plan-range p t = go (isCredit p) (isLevel p) (isContinuous p) refl refl refl
   where
     go : (credit level continuous : Bool) → isCredit p ≡ credit → isLevel p ≡ level → isContinuous p ≡ continuous → PlanRange p
     go true level continuous c l k =
-        omega (arith, eqb-true (p .kind) 1 c, lots-range p largestLimit (rw (validPlan, c) at t))
+        omega (arith, eqb-true (p .kind) 1 c, lots-range p largestAoql (rw (validPlan, c) at t))
     go false true continuous c l k =
         omega (arith, eqb-true (p .kind) 2 l, lots-range p verificationLevels (rw (validPlan, c, l) at t))
     go false false true c l k = omega (arith, eqb-true (p .kind) 3 k, blocks-range p (rw (validPlan, c, l, k) at t))

@@ -18,7 +18,7 @@ use native.Mathlib.Omega.{arith}
 use lib.Dec.{eqb}
 use borrow.Author.Tests.{eqb-true, eqb-false}
 use Rattle.plans.specs.Credit.{roundedUp, LeastNotBelow, sampleDividend, sampleDivisor, creditSample, creditAfter}
-use Rattle.plans.specs.Limits.{largestLot, largestCredit, largestLimit}
+use Rattle.plans.specs.Limits.{largestLot, largestCredit, largestAoql}
 use Rattle.plans.proofs.Booleans.{either}
 
 module _ (a b : ℕ) (positive : 0 < b) where
@@ -60,7 +60,7 @@ module _ (K N A : ℕ) where
       go (suc n) e = omega arith
 
   -- no sum or product of formula (1) overflows 64 bits
-  pub product-at-most : K ≤ largestCredit → N ≤ largestLot → A ≤ largestLimit → (K + N) * A ≤ (largestCredit + largestLot) * largestLimit
+  pub product-at-most : K ≤ largestCredit → N ≤ largestLot → A ≤ largestAoql → (K + N) * A ≤ (largestCredit + largestLot) * largestAoql
   product-at-most k n a = omega (arith, mul-le-mul {n₁ = K + N} {n₂ = largestCredit + largestLot} (omega arith) a)
 
 -- a lot adds at most its size to the credit

@@ -3,8 +3,8 @@
 use Prim.Native.Nat.{ℕ, _*_}
 
 -- 5: the AOQL A of a credit plan, in millionths
-abbrev pub largestLimit : ℕ
-largestLimit = 500000
+abbrev pub largestAoql : ℕ
+largestAoql = 500000
 
 -- 5: the level A of a level plan, VL-1 to VL-7
 abbrev pub verificationLevels : ℕ

@@ -10,7 +10,7 @@ ghost use Rattle.plans.specs.Credit.{
   sampleDivisor,
   LeastNotBelow,
 };
-ghost use Rattle.plans.specs.Limits.{largestCredit, largestLot, largestLimit};
+ghost use Rattle.plans.specs.Limits.{largestCredit, largestLot, largestAoql};
 use crate::LotSize;
 use crate::SampleSize;
 use crate::verdict;
@@ -21,7 +21,7 @@ pub struct Credit(pub u32);
 impl Credit {
     // The sample that a lot asks for, where the AOQL is limit millionths: clause 10 a).
     pub fn sample(self, size: LotSize, limit: u32) -> SampleSize
-        requires { ⌜ (self .0 ≤ largestCredit) × (1 ≤ size .0) × (size .0 ≤ largestLot) × (limit ≤ largestLimit) ⌝ }
+        requires { ⌜ (self .0 ≤ largestCredit) × (1 ≤ size .0) × (size .0 ≤ largestLot) × (limit ≤ largestAoql) ⌝ }
         ensures { λ r. ⌜ r .0 ≡ creditSample (self .0) (size .0) limit ⌝ }
         ensures least { λ r. ⌜ LeastNotBelow (sampleDividend (size .0)) (sampleDivisor (self .0) (size .0) limit) (r .0) ⌝ }
         ensures range { λ r. ⌜ (1 ≤ r .0) × (r .0 ≤ size .0) ⌝ }

@@ -2,7 +2,7 @@
 pub const LARGEST_LOT: u32 = 1000000;
 
 // An AOQL, in millionths.
-pub const LARGEST_LIMIT: u32 = 500000;
+pub const LARGEST_AOQL: u32 = 500000;
 
 // VL-1 to VL-7.
 pub const VERIFICATION_LEVELS: u32 = 7;

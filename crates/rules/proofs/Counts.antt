@@ -36,15 +36,15 @@ implied true b e h = e
 implied false b e h = absurd (never-both false h refl)
 
 -- what counts that agree say
-record Counted (verdict N n d D : ℕ) : Type 0 where
+record AgreedCounts (verdict N n d D : ℕ) : Type 0 where
   inSample : d ≤ n
   none : eqb d 0 ≡ true → D ≡ 0
   heard : eqb verdict lotHeard ≡ true → D ≤ N - n + d
   withheld : eqb verdict lotWithheld ≡ true → D ≡ d
 
-counted : (verdict N n d D : ℕ) → countsAgree verdict N n d D ≡ true → Counted verdict N n d D
+agreed-counts : (verdict N n d D : ℕ) → countsAgree verdict N n d D ≡ true → AgreedCounts verdict N n d D
 unfolding countsAgree
-counted verdict N n d D e =
+agreed-counts verdict N n d D e =
     let three = both-true _ (not (eqb verdict lotWithheld) || eqb D d) e in
     let two = both-true _ (not (eqb verdict lotHeard) || within d (N - n + d) D) (three .0) in
     let one = both-true (leb d n) (not (eqb d 0) || eqb D 0) (two .0) in
@@ -67,13 +67,13 @@ all-at-most p f count label N n d D allowed = go (eqb d 0) refl
     sampled = omega (arith, allowed .sample, sample-at-most p f N)
 
     heard : Fits lotHeard
-    heard e = omega (arith, sampled, counted _ N n d D e .inSample, counted _ N n d D e .heard refl)
+    heard e = omega (arith, sampled, agreed-counts _ N n d D e .inSample, agreed-counts _ N n d D e .heard refl)
 
     withheld : Fits lotWithheld
-    withheld e = omega (arith, sampled, counted _ N n d D e .inSample, counted _ N n d D e .withheld refl)
+    withheld e = omega (arith, sampled, agreed-counts _ N n d D e .inSample, agreed-counts _ N n d D e .withheld refl)
 
     go : (none : Bool) → eqb d 0 ≡ none → D ≤ N
-    go true e = omega (arith, counted _ N n d D (allowed .counts) .none e)
+    go true e = omega (arith, agreed-counts _ N n d D (allowed .counts) .none e)
     go false e =
         either Fits (isCredit p) (either Fits (eqb (f .credit .0) 0 || hasOption p) heard withheld) withheld
         (rw (verdictOn, creditVerdict, levelVerdict, e) at (allowed .counts))

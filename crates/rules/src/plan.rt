@@ -24,7 +24,7 @@ pub fn is_valid(plan: Plan) -> bool
 {
     let kind = plan.kind;
     if kind == CREDIT {
-        return is_for_lots(plan, limits::LARGEST_LIMIT);
+        return is_for_lots(plan, limits::LARGEST_AOQL);
     }
     if kind == LEVEL {
         return is_for_lots(plan, limits::VERIFICATION_LEVELS);

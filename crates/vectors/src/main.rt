@@ -2,7 +2,7 @@
 // written from the documents: document 004 (ISO 28593), the example of clause 10, Tables A.1 and A.2; document 000 (ISO 28594),
 // Table D.1.
 ghost use Prim.Native.Nat.{_+_, _≤_, _<_};
-ghost use Rattle.plans.specs.Limits.{largestLot, largestLimit};
+ghost use Rattle.plans.specs.Limits.{largestLot, largestAoql};
 ghost use Rattle.plans.specs.LevelBounds.{LevelWithin};
 use libc::STDOUT_FILENO;
 use plans::LotSize;
@@ -50,7 +50,7 @@ fn main() {
 
 // Prints a credit lot with the sample that it asks for, and hands back the credit after it.
 fn credit_lot(lot: u32, size: u32, credit: Credit, limit: u32, wrong: u32) -> Credit
-    requires { ⌜ (credit .0 ≤ largestLot) × (1 ≤ size) × (size ≤ largestLot) × (limit ≤ largestLimit) ⌝ }
+    requires { ⌜ (credit .0 ≤ largestLot) × (1 ≤ size) × (size ≤ largestLot) × (limit ≤ largestAoql) ⌝ }
     ensures { λ r. ⌜ r .0 ≤ credit .0 + size ⌝ }
 {
     let sample = credit.sample(LotSize(size), limit);
@@ -75,7 +75,7 @@ fn constant_lots(size: u32)
 
 // A row of Table A.1: the sample that the largest lot asks for with no credit, and the largest lot that asks for a smaller one.
 fn largest_sample(limit: u32)
-    requires { ⌜ limit ≤ largestLimit ⌝ }
+    requires { ⌜ limit ≤ largestAoql ⌝ }
 {
     let largest = Credit(0).sample(LotSize(limits::LARGEST_LOT), limit).0;
     let mut size: u32 = limits::LARGEST_LOT;
