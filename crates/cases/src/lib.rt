@@ -3,6 +3,7 @@ ghost use mathlib.Core.Path.{_≡_};
 ghost use Prim.Native.Nat.{_≤_};
 ghost use Rattle.cases.specs.Cases.{creditCases, levelCases, continuousCases, statedIn, ProvedCases};
 ghost use Rattle.plans.specs.Credit.{creditSample};
+ghost use Rattle.plans.specs.Limits.{largestCredit, largestLot, largestAoql, verificationLevels};
 ghost use Rattle.plans.specs.Tables.{levelSample};
 use plans::LotSize;
 use plans::continuous::Continuous;
@@ -53,14 +54,14 @@ pub fn continuous_cases() -> [u32; 2]
 }
 
 fn credit_sample(credit: u32, size: u32, limit: u32) -> u32
-    requires { ⌜ (credit ≤ 128000000) × (1 ≤ size) × (size ≤ 1000000) × (limit ≤ 500000) ⌝ }
+    requires { ⌜ (credit ≤ largestCredit) × (1 ≤ size) × (size ≤ largestLot) × (limit ≤ largestAoql) ⌝ }
     ensures { λ r. ⌜ r ≡ creditSample credit size limit ⌝ }
 {
     Credit(credit).sample(LotSize(size), limit).0
 }
 
 fn level_sample(vl: u32, severity: u32, size: u32) -> u32
-    requires { ⌜ (1 ≤ vl) × (vl ≤ 7) ⌝ }
+    requires { ⌜ (1 ≤ vl) × (vl ≤ verificationLevels) ⌝ }
     ensures { λ r. ⌜ r ≡ levelSample vl severity size ⌝ }
 {
     tables::sample_size(vl, severity, LotSize(size)).0

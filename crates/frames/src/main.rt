@@ -10,6 +10,7 @@ ghost use Rattle.frames.specs.Turns.{Lent, TurnTaken, Ran};
 use libc::STDERR_FILENO;
 use libc::STDIN_FILENO;
 use libc::STDOUT_FILENO;
+use model::sizes::STORE_LENGTH;
 
 // As much as one read takes.
 const PIECE_LENGTH: usize = 16384;
@@ -33,7 +34,7 @@ struct Ended {
 }
 
 fn main() {
-    let mut store = [0u8; listening::STORE_LENGTH];
+    let mut store = [0u8; STORE_LENGTH];
     let mut line = [0u8; feeding::LINE_ROOM];
     let mut piece = [0u8; PIECE_LENGTH];
     let mut out = [0u8; OUT_LENGTH];

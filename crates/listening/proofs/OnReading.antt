@@ -16,7 +16,8 @@ use Rattle.model.specs.Area.{areaOf, Reading, unsound, holds, reading}
 use Rattle.model.proofs.Booleans.{never-both}
 use Rattle.model.proofs.Allowed.{newest-of, count-within}
 use Rattle.model.proofs.AreaReading.{area-of-reading}
-use Rattle.model.proofs.FigureBounds.{FiguresWithin, figures-within}
+use Rattle.model.specs.FigureBounds.{FiguresWithin}
+use Rattle.model.proofs.FigureBounds.{figures-within}
 use Rattle.model.proofs.Keeping.{plan-of, entries-of}
 use Rattle.records.specs.Records.{LevelFits}
 use Rattle.replay.specs.declared.Standing.{Standing}

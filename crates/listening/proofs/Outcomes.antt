@@ -5,7 +5,7 @@ use mathlib.Core.Bool.{Bool, false}
 use mathlib.Core.List.{List, [], _∷_, append-assoc}
 use native.Mathlib.Omega.{arith}
 use lib.Dec.{T}
-use borrow.Author.Tests.{ne-eqb}
+use borrow.Author.Tests.{ne-eqb, not-false}
 use lib.ListN.{length, drop}
 use Rattle.little.specs.Little.{written}
 use Rattle.model.specs.declared.Plan.{Plan}
@@ -52,7 +52,7 @@ use Rattle.model.specs.Area.{
   AreaOutcome,
   onArea,
 }
-use Rattle.model.proofs.Booleans.{both-true, not-false-of}
+use Rattle.model.proofs.Booleans.{both-true}
 use Rattle.model.proofs.Allowed.{room-for, passed, allowed-run, allowed-block, allowed-stop}
 use Rattle.model.proofs.FigureBounds.{lot-size-range}
 use Rattle.model.proofs.AreaReading.{area-of-reading, part-record, records-in}
@@ -211,5 +211,5 @@ allowed-ask p f N z =
     let seven = passed 7 _ _ (omega arith) z in
     let eight = passed 8 _ _ (omega arith) (seven .1) in
     let eleven = passed 11 _ _ (omega arith) (eight .1) in
-    let size = lot-size-range p N (not-false-of (sizeInRange p N) (eleven .0)) in
+    let size = lot-size-range p N (not-false (sizeInRange p N) (eleven .0)) in
     (seven .0, size .0, size .1)

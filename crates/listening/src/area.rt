@@ -5,7 +5,7 @@ ghost use lib.ListN.{length};
 ghost use lib.Dec.{T};
 ghost use Rattle.little.specs.Little.{bytes, written};
 ghost use Rattle.model.specs.declared.Call.the-variants.{Open, Enter, Back, Ask, Read};
-ghost use Rattle.model.specs.Sizes.{areaLength, recordLength, headerLength};
+ghost use Rattle.model.specs.Sizes.{areaLength, recordLength, headerLength, mostRecords};
 ghost use Rattle.model.specs.Stations.{entryArguments, allWords};
 ghost use Rattle.model.specs.Figuring.{stepped};
 ghost use Rattle.model.specs.Area.{zeros, figureBytes, recordOf, onArea};
@@ -157,7 +157,7 @@ fn put_entry(area: &mut [u8], standing: Standing, entry: Entry) -> Figures
 
 // Clears the last record, and writes the figures before it.
 fn clear_entry(area: &mut [u8], last: usize, figures: Figures)
-    requires { ⌜ (length (now area) ≡ areaLength) × (last < 128) × LevelFits (figures .level) ⌝ }
+    requires { ⌜ (length (now area) ≡ areaLength) × (last < mostRecords) × LevelFits (figures .level) ⌝ }
     ensures { λ _. ⌜ now (area .exit) ≡ rewritten last (zeros recordLength) last figures (now (area .entry)) ⌝ }
 {
     records::clear_record(area, last);
@@ -166,7 +166,7 @@ fn clear_entry(area: &mut [u8], last: usize, figures: Figures)
 
 // Writes the count of standing records, and the figures after them.
 fn put_standing(area: &mut [u8], count: usize, figures: Figures)
-    requires { ⌜ (length (now area) ≡ areaLength) × (count ≤ 128) × LevelFits (figures .level) ⌝ }
+    requires { ⌜ (length (now area) ≡ areaLength) × (count ≤ mostRecords) × LevelFits (figures .level) ⌝ }
     ensures { λ _. ⌜ now (area .exit) ≡ written 16 (figureBytes figures) (written 2 (bytes 2 count) (now (area .entry))) ⌝ }
 {
     records::put_count(area, count);
@@ -176,7 +176,7 @@ fn put_standing(area: &mut [u8], count: usize, figures: Figures)
 // The record writer: an entry's record in the part of the store that is lent. Its arguments are 32-bit numbers, so that it is read
 // back.
 fn put_record_of(area: &mut [u8], i: usize, entry: Entry)
-    requires { ⌜ (length (now area) ≡ areaLength) × (i < 128) × FlagFits entry ⌝ }
+    requires { ⌜ (length (now area) ≡ areaLength) × (i < mostRecords) × FlagFits entry ⌝ }
     ensures { λ _. ⌜ (now (area .exit) ≡ written (headerLength + recordLength * i) (recordOf entry) (now (area .entry))) × T (allWords (entryArguments entry)) ⌝ }
 {
     match entry {

@@ -15,12 +15,10 @@ use model::Answer;
 use model::Call;
 use model::Entry;
 use model::Plan;
+use model::sizes;
+use model::sizes::STORE_LENGTH;
+use model::sizes::STREAMS;
 use rules::answering;
-
-pub const STREAMS: u32 = 16;
-
-// 41,728
-pub const STORE_LENGTH: usize = 16 * records::AREA_LENGTH;
 
 // Opens a stream with a plan.
 pub fn open(store: &mut [u8], stream: u32, kind: u32, option: u32, a: u32, b: u32) -> Answer
@@ -93,7 +91,7 @@ pub fn ask(store: &[u8], stream: u32, size: u32) -> Answer
         return answering::refused(2);
     }
     let start = start_of(stream);
-    let end = start + records::AREA_LENGTH;
+    let end = start + sizes::AREA_LENGTH;
     area::ask(&store[start..end], size)
 }
 
@@ -108,7 +106,7 @@ pub fn read(store: &[u8], stream: u32) -> Answer
         return answering::refused(2);
     }
     let start = start_of(stream);
-    let end = start + records::AREA_LENGTH;
+    let end = start + sizes::AREA_LENGTH;
     area::read(&store[start..end])
 }
 
@@ -123,7 +121,7 @@ pub fn make(store: &mut [u8], stream: u32, call: Call) -> Answer
         return answering::refused(2);
     }
     let start = start_of(stream);
-    let end = start + records::AREA_LENGTH;
+    let end = start + sizes::AREA_LENGTH;
     area::make(&mut store[start..end], call)
 }
 
@@ -132,5 +130,5 @@ fn start_of(stream: u32) -> usize
     requires { ⌜ stream < streams ⌝ }
     ensures { λ r. ⌜ r ≡ startOf stream ⌝ }
 {
-    stream as usize * records::AREA_LENGTH
+    stream as usize * sizes::AREA_LENGTH
 }

@@ -19,12 +19,6 @@ unfolding bytes
 length-bytes zero n = refl
 length-bytes (suc k) n = ap suc (length-bytes k (n / 256))
 
-pub bytes-are-bytes : (k n : ℕ) → AreBytes (bytes k n)
-unfolding bytes
-bytes-are-bytes zero n i = lit< tt
-bytes-are-bytes (suc k) n zero = omega arith
-bytes-are-bytes (suc k) n (suc i) = bytes-are-bytes k (n / 256) i
-
 -- the bytes of a number that they have room for hold it
 pub value-bytes : (k : ℕ) {n : ℕ} → n < 256 ^ k → value (bytes k n) ≡ n
 unfolding bytes value

@@ -15,14 +15,14 @@ use Rattle.plans.specs.Stops.{setUpChanged, longStop}
 use Rattle.plans.specs.Continuous.{screening, sampling, isSampling, afterRun, afterBlock, afterStop}
 use Rattle.plans.specs.declared.level.LevelState.{LevelState}
 use Rattle.plans.specs.declared.continuous.Continuous.{Continuous}
-use Rattle.plans.proofs.Bounds.{either}
+use Rattle.plans.proofs.Booleans.{either}
 use Rattle.model.specs.declared.Plan.{Plan}
 use Rattle.model.specs.declared.Entry.{Entry}
 use Rattle.model.specs.declared.Entry.the-variants.{Lot, Run, Block, Stop}
 use Rattle.model.specs.Stations.{isCredit, isLevel, isContinuous, hasOption, validPlan}
 use Rattle.model.specs.Figuring.{noLevel, started, creditStep, levelStep, continuousStep, stepped, figuresOf}
 use Rattle.model.specs.Calls.{admissible}
-use Rattle.model.specs.Backward.{isWrongLot, sinceWrongLot, sizeOf, sizes, creditBack, lotsWrong, mark, windowBack, runsOf, runs, breaks, sinceBreaker, samplingBack, phaseBack, countBack, tailOfLast, tailBack}
+use Rattle.model.specs.Backward.{isWrongLot, sinceWrongLot, sizeOf, sizes, creditBack, lotsWrong, withheldMark, windowBack, runsOf, runs, breaks, sinceBreaker, samplingBack, phaseBack, countBack, tailOfLast, tailBack}
 use Rattle.model.proofs.Allowed.{allowed-lot, allowed-run, allowed-block, newest-of, continuous-plan}
 use Rattle.model.proofs.Booleans.{never-both}
 
@@ -60,18 +60,18 @@ unfolding metStop arrived
 stop-window why days s =
     either (λ (t : LevelState). t .window ≡ s .window) (eqb (s .level) reduced && (setUpChanged why || longStop days)) refl refl
 
-mark-within : (es : List Entry) (j : ℕ) → mark es j ≤ 1
-unfolding mark
+mark-within : (es : List Entry) (j : ℕ) → withheldMark es j ≤ 1
+unfolding withheldMark
 mark-within es j =
     either (λ (x : ℕ). x ≤ 1) (ltb j (length (lotsWrong es)) && getD (lotsWrong es) j false) (omega arith) (omega arith)
 
 module _ (label N n d D : ℕ) (es : List Entry) where
-  mark-newest : mark (Lot label N n d D ∷ es) 0 ≡ cond (ltb 0 d) 1 0
-  unfolding mark lotsWrong
+  mark-newest : withheldMark (Lot label N n d D ∷ es) 0 ≡ cond (ltb 0 d) 1 0
+  unfolding withheldMark lotsWrong
   mark-newest = rw (lt-ltb 0 (suc (length (lotsWrong es))) (omega arith))
 
-  mark-before : (j : ℕ) → mark (Lot label N n d D ∷ es) (suc j) ≡ mark es j
-  unfolding mark lotsWrong
+  mark-before : (j : ℕ) → withheldMark (Lot label N n d D ∷ es) (suc j) ≡ withheldMark es j
+  unfolding withheldMark lotsWrong
   mark-before j = rw (leb·suc-suc (suc j) (length (lotsWrong es)))
 
   -- with one lot more, the marks worked out backwards move up by one
@@ -88,7 +88,7 @@ window-of true s after W X e follows = follows e
 window-of false s after W X e follows = e
 
 pub window-backward : (p : Plan) (es : List Entry) → figuresOf p es .level .window ≡ cond (isLevel p) (windowBack es) 0
-unfolding figuresOf started stepped levelStep levelStart noLevel windowBack mark lotsWrong
+unfolding figuresOf started stepped levelStep levelStart noLevel windowBack withheldMark lotsWrong
 window-backward p [] = window-of (isLevel p) noLevel levelStart 0 0 (either (λ (x : ℕ). 0 ≡ x) (isLevel p) refl refl) (λ e. refl)
 window-backward p (Lot label N n d D ∷ es) =
     let s : LevelState = figuresOf p es .level in

@@ -1,4 +1,4 @@
--- Tests taken apart and put together. Assumes nothing.
+-- Tests taken apart and put together, beside those that plans has. Assumes nothing.
 use Prim.Native.Nat.{ℕ, _^_, _≤_, _<_}
 use mathlib.Core.Path.{_≡_, refl, sym, subst, _∙_}
 use mathlib.Core.Bool.{Bool, true, false, not, _&&_, _||_}
@@ -6,6 +6,7 @@ use mathlib.Core.List.{List, [], _∷_}
 use lib.Dec.{T, leb, ltb, lt→ltb}
 use borrow.Author.Tests.{leb-true}
 use Rattle.model.specs.Stations.{within, allWords}
+pub use Rattle.plans.proofs.Booleans.{both-of}
 
 pub holds-of : (b : Bool) → T b → b ≡ true
 holds-of true t = refl
@@ -14,11 +15,7 @@ holds-of false t = absurd t
 pub of-holds : (b : Bool) → b ≡ true → T b
 of-holds b e = subst (λ (b : Bool). T b) (sym e) tt
 
--- the parts of a conjunction that holds
-pub both-of : (a b : Bool) → T (a && b) → T a × T b
-both-of true b t = (tt, t)
-both-of false b t = absurd t
-
+-- the parts of a conjunction that holds; `both-of` says it of `T`
 pub both-true : (a b : Bool) → a && b ≡ true → (a ≡ true) × (b ≡ true)
 both-true true b e = (refl, e)
 both-true false b e = let never : _≡_ {A = Bool} false true = e in (never, absurd (subst (λ (x : Bool). T (not x)) never tt))
@@ -31,10 +28,6 @@ both false b s t = s
 pub neither-of : (a b : Bool) → a || b ≡ false → (a ≡ false) × (b ≡ false)
 neither-of true b e = absurd (subst (λ (x : Bool). T x) e tt)
 neither-of false b e = (refl, e)
-
-pub not-false-of : (b : Bool) → not b ≡ false → b ≡ true
-not-false-of true e = refl
-not-false-of false e = absurd (subst (λ (x : Bool). T x) e tt)
 
 pub within-of : (low high n : ℕ) → within low high n ≡ true → (low ≤ n) × (n ≤ high)
 unfolding within

@@ -54,6 +54,7 @@ use Rattle.model.specs.Calls.{
   sizeInRange,
   countsAgree,
   entryRefusals,
+  accepts,
   askRefusals,
   refusals,
   refusalOf,
@@ -106,9 +107,9 @@ use Rattle.model.specs.Cases.{
   wrongLots,
   takenBack,
   discontinuedCase,
-  creditBytes,
-  levelBytes,
-  continuousBytes,
+  creditArea,
+  levelArea,
+  continuousArea,
   CasesHold,
 }
 
@@ -120,11 +121,11 @@ unfolding
     levelAfter moved judgedLot metStop screening sampling isSampling afterRun afterBlock afterStop bytes value part written
     isCredit isLevel isContinuous hasOption within validPlan entryArguments allWords
     noLevel started sampleAsked verdictOn acceptedBy creditStep levelStep continuousStep isLot labelOf stepped figuresOf
-    firstOf isDiscontinued isFull sameLabel sizeInRange countsAgree entryRefusals askRefusals refusals refusalOf lotFigure readFigure
+    firstOf isDiscontinued isFull sameLabel sizeInRange countsAgree entryRefusals accepts askRefusals refusals refusalOf lotFigure readFigure
     entryAnswer kindOf newestKind answerOf withoutNewest changed call admissible admissibleStation
     planBytes figureBytes recordBytes recordOf recordsOf areaOf planIn countIn entryIn entriesIn stationIn sameBytes
     reading onArea fresh areaAt onStream onStore storeAfter answersTo onAll callsOf answersOf
     frameCase creditCase levelCase strictCase continuousCase acceptedLots reducedCase wrongLots takenBack discontinuedCase stationAnswers notPermitted fiveBeatTen agreedCase creditEdges continuousEdges
-    creditBytes levelBytes continuousBytes
+    creditArea levelArea continuousArea
 cases-hold =
     (refl, refl, refl, refl, refl, refl, refl, refl, refl, refl, refl, refl, refl, refl, (refl, refl), (refl, refl, refl, refl), (refl, refl, refl))

@@ -20,7 +20,7 @@ use Rattle.model.specs.Stations.{Station, unopened, opened, arguments, a
 use Rattle.model.specs.Calls.{firstOf, refusals, refusalOf, changed, withoutNewest, call, admissible, admissibleStation}
 use Rattle.model.specs.Area.{zeros, areaOf, onArea}
 use Rattle.model.specs.Store.{Request, fresh, areaAt, onStore, storeAfter, answersTo}
-use Rattle.model.specs.Claims.{history, afterAccepted, afterMade, standing, on, entered, remade, AllTaken, onAll, areWords, standingAfter, here, there, StationBackward, EveryList}
+use Rattle.model.specs.Claims.{history, afterAccepted, afterPastCall, standing, on, reentered, remade, AllTaken, onAll, areWords, standingAfter, here, there, StationBackward, EveryList}
 use Rattle.model.proofs.Booleans.{both-of}
 use Rattle.model.proofs.Allowed.{Newest, newest-of}
 use Rattle.model.proofs.AreaReading.{reading-of-area}
@@ -103,8 +103,8 @@ module _ (stream : ℕ) (known : stream < streams) where
   -- what the stream holds after a call is the standing list after it
   stands : (store : List ℕ) (st : Station) (r : Request) → Holds store stream st → T (allWords (arguments (r .made)))
       → Holds (onStore store r .store) stream
-      (afterMade stream (record { request = r; refusal = onStore store r .answer .refusal }) st)
-  unfolding afterMade
+      (afterPastCall stream (record { request = r; refusal = onStore store r .answer .refusal }) st)
+  unfolding afterPastCall
   stands store st r h w = go (eqb (r .stream) stream) refl
     where
       own : r .stream ≡ stream → r ≡ on stream (r .made)
@@ -125,7 +125,7 @@ module _ (stream : ℕ) (known : stream < streams) where
   standing-holds (r ∷ calls) store st h w =
       let words = both-of (allWords (arguments (r .made))) (areWords calls) w in
       standing-holds calls (onStore store r .store)
-      (afterMade stream (record { request = r; refusal = onStore store r .answer .refusal }) st)
+      (afterPastCall stream (record { request = r; refusal = onStore store r .answer .refusal }) st)
       (stands store st r h (words .0))
       (words .1)
 
@@ -196,15 +196,15 @@ module _ (stream : ℕ) (known : stream < streams) where
   entry-leaves store p e es h last = leaves-call store (opened p es) (Enter e) h (last .words) (last .accepted)
 
   -- the standing entries, oldest first
-  entered-leaves : (store : List ℕ) (p : Plan) (es : List Entry) → Holds store stream (opened p []) → T (admissible p es)
-      → Leaves stream store (entered stream es) (opened p es)
-  unfolding entered storeAfter answersTo AllTaken
-  entered-leaves store p [] h t = record { left = h; taken = tt }
-  entered-leaves store p (e ∷ es) h t =
+  reentered-leaves : (store : List ℕ) (p : Plan) (es : List Entry) → Holds store stream (opened p []) → T (admissible p es)
+      → Leaves stream store (reentered stream es) (opened p es)
+  unfolding reentered storeAfter answersTo AllTaken
+  reentered-leaves store p [] h t = record { left = h; taken = tt }
+  reentered-leaves store p (e ∷ es) h t =
       let last = newest-of p e es t in
-      let before = entered-leaves store p es h (last .others) in
-      leaves-both store (entered stream es) (on stream (Enter e) ∷ []) (opened p es) (opened p (e ∷ es)) before
-      (entry-leaves (storeAfter store (entered stream es)) p e es (before .left) last)
+      let before = reentered-leaves store p es h (last .others) in
+      leaves-both store (reentered stream es) (on stream (Enter e) ∷ []) (opened p es) (opened p (e ∷ es)) before
+      (entry-leaves (storeAfter store (reentered stream es)) p e es (before .left) last)
 
   -- the other store
   remade-leaves : (st : Station) → T (admissibleStation st) → Leaves stream fresh (remade stream st) st
@@ -212,8 +212,8 @@ module _ (stream : ℕ) (known : stream < streams) where
   remade-leaves unopened t = record { left = fresh-holds stream known; taken = tt }
   remade-leaves (opened p es) t =
       let first = leaves-call fresh unopened (Open p) (fresh-holds stream known) (plan-words p (plan-of p es t)) (valid-opens p (plan-of p es t)) in
-      leaves-both fresh (on stream (Open p) ∷ []) (entered stream es) (opened p []) (opened p es) first
-      (entered-leaves (storeAfter fresh (on stream (Open p) ∷ [])) p es (first .left) (entries-of p es t))
+      leaves-both fresh (on stream (Open p) ∷ []) (reentered stream es) (opened p []) (opened p es) first
+      (reentered-leaves (storeAfter fresh (on stream (Open p) ∷ [])) p es (first .left) (entries-of p es t))
 
 -- two stores of one length with the same area for a stream give the same answers there, whatever calls follow
 same-answers : (stream : ℕ) (more : List Call) (store other : List ℕ) → length other ≡ length store

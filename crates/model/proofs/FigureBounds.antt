@@ -1,18 +1,21 @@
 -- How far the standing entries can take a stream's figures: what keeps the figures in their bytes. Assumes nothing.
 use Prim.Native.Nat.{ℕ, suc, _+_, _*_, _-_, _^_, _≤_, _<_}
-use mathlib.Core.Path.{_≡_}
+use mathlib.Core.Path.{_≡_, refl}
 use mathlib.Core.Bool.{true, cond, _&&_, _||_}
 use mathlib.Core.List.{List, [], _∷_}
 use native.Mathlib.Omega.{arith}
 use lib.Dec.{T, eqb, ltb, ltb→lt}
 use lib.ListN.{length}
+use Rattle.plans.specs.Limits.{largestLot, largestClearance, largestInterval}
 use Rattle.plans.specs.Verdicts.{acceptedOf, lotAccepted, lotHeard}
 use Rattle.plans.specs.Levels.{judgedLot, metStop}
 use Rattle.plans.specs.Stops.{setUpChanged, longStop}
 use Rattle.plans.specs.Continuous.{screening, sampling, isSampling, afterRun, afterBlock, afterStop}
 use Rattle.plans.specs.declared.level.LevelState.{LevelState}
 use Rattle.plans.specs.declared.continuous.Continuous.{Continuous}
-use Rattle.plans.proofs.Bounds.{either, LevelWithin, judged-lot-within, met-stop-within, start-within}
+use Rattle.plans.specs.LevelBounds.{LevelWithin}
+use Rattle.plans.proofs.Booleans.{either}
+use Rattle.plans.proofs.LevelBounds.{judged-lot-within, met-stop-within, start-within}
 use Rattle.plans.proofs.RoundedUp.{credit-after-at-most}
 use Rattle.model.specs.declared.Plan.{Plan}
 use Rattle.model.specs.declared.Entry.{Entry}
@@ -20,26 +23,17 @@ use Rattle.model.specs.declared.Entry.the-variants.{Lot, Run, Block, Sto
 use Rattle.model.specs.declared.Figures.{Figures}
 use Rattle.model.specs.Stations.{isCredit, isLevel, isContinuous, hasOption, validPlan, allWords, entryArguments}
 use Rattle.model.specs.Figuring.{noLevel, started, verdictOn, acceptedBy, creditStep, levelStep, continuousStep, isLot, labelOf, stepped, figuresOf}
+use Rattle.model.specs.FigureBounds.{FiguresWithin}
 use Rattle.model.specs.Calls.{firstOf, entryRefusals, sizeInRange, admissible}
 use Rattle.model.proofs.Booleans.{both-of, within-of}
 use Rattle.model.proofs.Allowed.{AllowedLot, AllowedRun, AllowedBlock, allowed-lot, allowed-run, allowed-block, newest-of, continuous-plan}
 
--- the figures of a stream with at most n standing entries
-pub record FiguresWithin (n : ℕ) (f : Figures) : Type 0 where
-  pub credits : f .credit .0 ≤ 1000000 * n
-  pub levels : LevelWithin n (f .level)
-  pub counts : f .continuous .count ≤ 10000
-  pub phases : f .continuous .phase ≤ 1
-  pub tails : f .continuous .tail ≤ 200
-  pub acceptedIn : f .accepted ≤ 1000000 * n
-  pub labels : f .label < 2 ^ 32
-
 -- ---- one lot, run, block or stop
 
-pub lot-size-range : (p : Plan) (N : ℕ) → sizeInRange p N ≡ true → (1 ≤ N) × (N ≤ 1000000)
+pub lot-size-range : (p : Plan) (N : ℕ) → sizeInRange p N ≡ true → (1 ≤ N) × (N ≤ largestLot)
 unfolding sizeInRange
 lot-size-range p N e =
-    let range = within-of (cond (isLevel p) 2 1) 1000000 N e in
+    let range = within-of (cond (isLevel p) 2 1) largestLot N e in
     let least : 1 ≤ cond (isLevel p) 2 1 = either (λ (x : ℕ). 1 ≤ x) (isLevel p) (omega arith) (omega arith) in
     (omega arith, range .1)
 
@@ -62,25 +56,25 @@ level-stop-within p n why days s h =
     either (LevelWithin (suc n)) (isLevel p) (omega arith) (omega arith)
 
 record ContinuousWithin (s : Continuous) : Type 0 where
-  counts : s .count ≤ 10000
+  counts : s .count ≤ largestClearance
   phases : s .phase ≤ 1
-  tails : s .tail ≤ 200
+  tails : s .tail ≤ largestInterval
 
-screening-within : (c : ℕ) → c ≤ 10000 → ContinuousWithin (screening c)
+screening-within : (c : ℕ) → c ≤ largestClearance → ContinuousWithin (screening c)
 unfolding screening
 screening-within c h = omega arith
 
-sampling-within : (u : ℕ) → u ≤ 200 → ContinuousWithin (sampling u)
+sampling-within : (u : ℕ) → u ≤ largestInterval → ContinuousWithin (sampling u)
 unfolding sampling
 sampling-within u h = omega arith
 
-run-within : (i h w : ℕ) (s : Continuous) → s .count + h ≤ 10000 → ContinuousWithin (afterRun i h (eqb w 1) s)
+run-within : (i h w : ℕ) (s : Continuous) → s .count + h ≤ largestClearance → ContinuousWithin (afterRun i h (eqb w 1) s)
 unfolding afterRun
 run-within i h w s fits =
     either ContinuousWithin (eqb w 1) (screening-within 0 (omega arith))
     (either ContinuousWithin (eqb (s .count + h) i) (sampling-within 0 (omega arith)) (screening-within (s .count + h) fits))
 
-block-within : (g q w : ℕ) (s : Continuous) → g ≤ 200 → ContinuousWithin (afterBlock g q (eqb w 1) s .state)
+block-within : (g q w : ℕ) (s : Continuous) → g ≤ largestInterval → ContinuousWithin (afterBlock g q (eqb w 1) s .state)
 unfolding afterBlock
 block-within g q w s most =
     either ContinuousWithin (eqb w 1) (screening-within 0 (omega arith)) (sampling-within (g - q) (omega arith))
@@ -103,10 +97,10 @@ module _ (p : Plan) (f : Figures) (n : ℕ) (known : FiguresWithin n f) where
       → FiguresWithin (suc n) (stepped p (Lot label N m d D) f)
   unfolding stepped creditStep levelStep continuousStep acceptedBy isLot labelOf
   lot-entered label N m d D allowed word =
-      let size : N ≤ 1000000 = lot-size-range p N (allowed .size) .1 in
+      let size : N ≤ largestLot = lot-size-range p N (allowed .size) .1 in
       record {
         credits =
-            either (λ (x : ℕ). x ≤ 1000000 * suc n) (isCredit p)
+            either (λ (x : ℕ). x ≤ largestLot * suc n) (isCredit p)
             (omega (arith, credit-after-at-most (f .credit .0) N d))
             (omega arith);
         levels = level-lot-within p n d (f .level) (known .levels);
@@ -117,49 +111,44 @@ module _ (p : Plan) (f : Figures) (n : ℕ) (known : FiguresWithin n f) where
         labels = word;
       }
 
+  -- an entry that is no lot leaves the credit and the label
+  no-lot-entered : (after : Figures) → after .credit .0 ≡ f .credit .0 → after .label ≡ f .label
+      → LevelWithin (suc n) (after .level) → ContinuousWithin (after .continuous) → after .accepted ≤ f .accepted + largestLot
+      → FiguresWithin (suc n) after
+  no-lot-entered after credit label level continuous accepted =
+      record {
+        credits = omega arith;
+        levels = level;
+        counts = continuous .counts;
+        phases = continuous .phases;
+        tails = continuous .tails;
+        acceptedIn = omega arith;
+        labels = omega arith;
+      }
+
   run-entered : T (validPlan p) → (h w : ℕ) → AllowedRun p f n h w → FiguresWithin (suc n) (stepped p (Run h w) f)
   unfolding stepped creditStep levelStep continuousStep acceptedBy isLot
   run-entered valid h w allowed =
       let plan = continuous-plan p valid (allowed .continuous) in
-      let after = run-within (p .a) h w (f .continuous) (omega arith) in
-      record {
-        credits = omega arith;
-        levels = omega arith;
-        counts = after .counts;
-        phases = after .phases;
-        tails = after .tails;
-        acceptedIn = omega arith;
-        labels = known .labels;
-      }
+      no-lot-entered (stepped p (Run h w) f) refl refl (omega arith)
+      (run-within (p .a) h w (f .continuous) (omega arith))
+      (omega arith)
 
   block-entered : T (validPlan p) → (q w : ℕ) → AllowedBlock p f n q w → FiguresWithin (suc n) (stepped p (Block q w) f)
   unfolding stepped creditStep levelStep continuousStep acceptedBy isLot
   block-entered valid q w allowed =
       let plan = continuous-plan p valid (allowed .continuous) in
-      let after = block-within (p .b) q w (f .continuous) (plan .intervalMost) in
-      record {
-        credits = omega arith;
-        levels = omega arith;
-        counts = after .counts;
-        phases = after .phases;
-        tails = after .tails;
-        acceptedIn = omega (arith, block-accepts (p .b) q w (f .continuous) (allowed .last));
-        labels = known .labels;
-      }
+      no-lot-entered (stepped p (Block q w) f) refl refl (omega arith)
+      (block-within (p .b) q w (f .continuous) (plan .intervalMost))
+      (omega (arith, block-accepts (p .b) q w (f .continuous) (allowed .last)))
 
   stop-entered : (why days : ℕ) → FiguresWithin (suc n) (stepped p (Stop why days) f)
   unfolding stepped creditStep levelStep continuousStep acceptedBy isLot
   stop-entered why days =
-      let after = stop-within p why days (f .continuous) (omega arith) in
-      record {
-        credits = omega arith;
-        levels = level-stop-within p n why days (f .level) (known .levels);
-        counts = after .counts;
-        phases = after .phases;
-        tails = after .tails;
-        acceptedIn = omega arith;
-        labels = known .labels;
-      }
+      no-lot-entered (stepped p (Stop why days) f) refl refl
+      (level-stop-within p n why days (f .level) (known .levels))
+      (stop-within p why days (f .continuous) (omega arith))
+      (omega arith)
 
 -- an accepted entry with 32-bit arguments
 pub stepped-within : (p : Plan) (e : Entry) (f : Figures) (n : ℕ) → T (validPlan p) → firstOf (entryRefusals p f n e) ≡ 0

@@ -6,7 +6,7 @@ use mathlib.Core.List.{List, [], _∷_}
 use native.Mathlib.Omega.{arith}
 use lib.Dec.{T, eqb, ltb}
 use lib.ListN.{length}
-use borrow.Author.Tests.{eqb-true, eq-eqb, lt-ltb}
+use borrow.Author.Tests.{eqb-true, eq-eqb, lt-ltb, not-false}
 use Rattle.model.specs.declared.Plan.{Plan}
 use Rattle.model.specs.declared.Entry.{Entry}
 use Rattle.model.specs.declared.Entry.the-variants.{Lot, Run, Block, Stop}
@@ -15,8 +15,8 @@ use Rattle.model.specs.declared.Call.the-variants.{Open, Enter, Back, As
 use Rattle.model.specs.declared.Figures.{Figures}
 use Rattle.model.specs.Stations.{Station, unopened, opened, validPlan, arguments, entryArguments, allWords}
 use Rattle.model.specs.Figuring.{figuresOf}
-use Rattle.model.specs.Calls.{firstOf, entryRefusals, refusals, refusalOf, refused, entryAnswer, answerOf, withoutNewest, changed, call, admissible, admissibleStation}
-use Rattle.model.proofs.Booleans.{both, both-of, holds-of, of-holds, not-false-of}
+use Rattle.model.specs.Calls.{firstOf, entryRefusals, refusals, refusalOf, refused, entryAnswer, answerOf, withoutNewest, changed, call, accepts, admissible, admissibleStation}
+use Rattle.model.proofs.Booleans.{both, both-of, holds-of, of-holds}
 use Rattle.model.proofs.Allowed.{passed, newest-of, plan-range}
 
 module _ (st : Station) (c : Call) where
@@ -71,11 +71,11 @@ none-admissible p = tt
 pub entry-admissible : (p : Plan) (es : List Entry) (e : Entry) → T (admissible p es)
     → firstOf (entryRefusals p (figuresOf p es) (length es) e) ≡ 0 → T (allWords (entryArguments e))
     → T (admissible p (e ∷ es))
-unfolding admissible
+unfolding admissible accepts
 entry-admissible p es e h r w =
-    both (admissible p es && eqb (firstOf (entryRefusals p (figuresOf p es) (length es) e)) 0) (allWords (entryArguments e))
-    (both (admissible p es) (eqb (firstOf (entryRefusals p (figuresOf p es) (length es) e)) 0) h
-    (of-holds _ (eq-eqb (firstOf (entryRefusals p (figuresOf p es) (length es) e)) 0 r)))
+    let accepted : Bool = accepts p (figuresOf p es) (length es) e in
+    both (admissible p es && accepted) (allWords (entryArguments e))
+    (both (admissible p es) accepted h (of-holds accepted (eq-eqb (firstOf (entryRefusals p (figuresOf p es) (length es) e)) 0 r)))
     w
 
 pub plan-of : (p : Plan) (es : List Entry) → T (admissibleStation (opened p es)) → T (validPlan p)
@@ -93,7 +93,7 @@ opened-admissible p es v h = both (validPlan p) (admissible p es) v h
 -- a stream is opened with a valid plan
 pub open-valid : (q : Plan) → refusalOf unopened (Open q) ≡ 0 → T (validPlan q)
 unfolding refusalOf refusals
-open-valid q e = of-holds (validPlan q) (not-false-of (validPlan q) (passed 5 (not (validPlan q)) [] (omega arith) e .0))
+open-valid q e = of-holds (validPlan q) (not-false (validPlan q) (passed 5 (not (validPlan q)) [] (omega arith) e .0))
 
 pub valid-opens : (q : Plan) → T (validPlan q) → refusalOf unopened (Open q) ≡ 0
 unfolding refusalOf refusals firstOf

@@ -44,11 +44,11 @@ lotsWrong (Run h w ∷ es) = lotsWrong es
 lotsWrong (Block q w ∷ es) = lotsWrong es
 lotsWrong (Stop why days ∷ es) = lotsWrong es
 
-unfoldable pub mark : List Entry → ℕ → ℕ
-mark es j = cond (ltb j (length (lotsWrong es)) && getD (lotsWrong es) j false) 1 0
+unfoldable pub withheldMark : List Entry → ℕ → ℕ
+withheldMark es j = cond (ltb j (length (lotsWrong es)) && getD (lotsWrong es) j false) 1 0
 
 unfoldable pub windowBack : List Entry → ℕ
-windowBack es = mark es 0 + 2 * mark es 1 + 4 * mark es 2 + 8 * mark es 3 + 16 * mark es 4
+windowBack es = withheldMark es 0 + 2 * withheldMark es 1 + 4 * withheldMark es 2 + 8 * withheldMark es 3 + 16 * withheldMark es 4
 
 -- "Continuous": add up h of the runs after the last breaker, of all runs without one
 

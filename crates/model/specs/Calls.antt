@@ -1,10 +1,11 @@
 -- The eight calls on a station: paper 01, "Calls". Assumes nothing.
 use Prim.Native.Nat.{ℕ, _+_, _-_}
-use mathlib.Core.Bool.{Bool, true, false, cond, not, _&&_, _||_}
+use mathlib.Core.Bool.{Bool, true, cond, not, _&&_, _||_}
 use mathlib.Core.List.{List, [], _∷_}
 use lib.Dec.{eqb, ltb, leb}
 use lib.ListN.{length}
 use Rattle.plans.specs.Verdicts.{lotHeard, lotWithheld}
+use Rattle.plans.specs.Limits.{largestLot, longestRun, longestStop}
 use Rattle.plans.specs.Severities.{discontinued}
 use Rattle.plans.specs.Continuous.{isSampling, afterBlock}
 use Rattle.model.specs.declared.Plan.{Plan}
@@ -45,7 +46,7 @@ sameLabel f label = f .labelled && eqb label (f .label)
 
 -- 11: N from 1 (level: 2) to 1,000,000
 unfoldable pub sizeInRange : Plan → ℕ → Bool
-sizeInRange p N = within (cond (isLevel p) 2 1) 1000000 N
+sizeInRange p N = within (cond (isLevel p) 2 1) largestLot N
 
 -- 13: d is at most n; without a wrong one in the sample there is none in all that was heard; of a lot heard whole D is from d to
 -- N - n + d, and of one returned or withheld it is d
@@ -70,7 +71,7 @@ entryRefusals p f count (Lot label N n d D) =
 entryRefusals p f count (Run h w) =
     refuse 7 (not (isContinuous p))
     ∷ refuse 9 (isFull count)
-    ∷ refuse 15 (ltb 10000 h || ltb 1 w || eqb (h + w) 0)
+    ∷ refuse 15 (ltb longestRun h || ltb 1 w || eqb (h + w) 0)
     ∷ refuse 14 (isSampling (f .continuous) || ltb (p .a) (f .continuous .count + h + w))
     ∷ []
 entryRefusals p f count (Block q w) =
@@ -82,10 +83,14 @@ entryRefusals p f count (Block q w) =
 entryRefusals p f count (Stop why days) =
     refuse 8 (isDiscontinued f)
     ∷ refuse 9 (isFull count)
-    ∷ refuse 15 (not (within 1 2 why) || ltb 255 days || (eqb why 2 && ltb 0 days))
+    ∷ refuse 15 (not (within 1 2 why) || ltb longestStop days || (eqb why 2 && ltb 0 days))
     ∷ []
 
--- those of an ask
+-- such a call is accepted
+unfoldable pub accepts : Plan → Figures → ℕ → Entry → Bool
+accepts p f count e = eqb (firstOf (entryRefusals p f count e)) 0
+
+-- the refusals of an ask
 unfoldable pub askRefusals : Plan → Figures → ℕ → List Refusal
 askRefusals p f N =
     refuse 7 (isContinuous p) ∷ refuse 8 (isDiscontinued f) ∷ refuse 11 (not (sizeInRange p N)) ∷ []
@@ -188,7 +193,7 @@ call st c =
 unfoldable pub admissible : Plan → List Entry → Bool
 admissible p [] = true
 admissible p (e ∷ es) =
-    admissible p es && eqb (firstOf (entryRefusals p (figuresOf p es) (length es) e)) 0 && allWords (entryArguments e)
+    admissible p es && accepts p (figuresOf p es) (length es) e && allWords (entryArguments e)
 
 unfoldable pub admissibleStation : Station → Bool
 admissibleStation unopened = true

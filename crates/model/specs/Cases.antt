@@ -289,28 +289,28 @@ FullAt128 =
 
 -- "The store", byte for byte: the area after the calls starts with these bytes, and has zeros behind them
 
-abbrev pub Leaves : List Call → List ℕ → Type 0
-Leaves calls bytes =
+abbrev pub AreaStarts : List Call → List ℕ → Type 0
+AreaStarts calls bytes =
     areaAt 0 (storeAfter fresh (onAll 0 calls)) ≡ bytes ++ zeros (areaLength - length bytes)
 
-unfoldable pub creditBytes : List ℕ
-creditBytes =
+unfoldable pub creditArea : List ℕ
+creditArea =
     1 ∷ 0 ∷ 1 ∷ 0 ∷ 152 ∷ 58 ∷ 0 ∷ 0 ∷ 0 ∷ 0 ∷ 0 ∷ 0 ∷ 0 ∷ 0 ∷ 0 ∷ 0
     ∷ 201 ∷ 0 ∷ 0 ∷ 0 ∷ 0 ∷ 0 ∷ 0 ∷ 0 ∷ 0 ∷ 0 ∷ 0 ∷ 0 ∷ 0 ∷ 0 ∷ 0 ∷ 0
     ∷ 201 ∷ 0 ∷ 0 ∷ 0 ∷ 0 ∷ 0 ∷ 0 ∷ 0 ∷ 0 ∷ 0 ∷ 0 ∷ 0 ∷ 0 ∷ 0 ∷ 0 ∷ 0
     ∷ 1 ∷ 0 ∷ 0 ∷ 0 ∷ 1 ∷ 0 ∷ 0 ∷ 0 ∷ 201 ∷ 0 ∷ 0 ∷ 0 ∷ 0 ∷ 0 ∷ 0 ∷ 0 ∷ 0 ∷ 0 ∷ 0 ∷ 0
     ∷ []
 
-unfoldable pub levelBytes : List ℕ
-levelBytes =
+unfoldable pub levelArea : List ℕ
+levelArea =
     2 ∷ 1 ∷ 1 ∷ 0 ∷ 2 ∷ 0 ∷ 0 ∷ 0 ∷ 0 ∷ 0 ∷ 0 ∷ 0 ∷ 0 ∷ 0 ∷ 0 ∷ 0
     ∷ 0 ∷ 0 ∷ 0 ∷ 0 ∷ 1 ∷ 0 ∷ 0 ∷ 1 ∷ 0 ∷ 0 ∷ 0 ∷ 0 ∷ 0 ∷ 0 ∷ 0 ∷ 0
     ∷ 0 ∷ 0 ∷ 0 ∷ 0 ∷ 0 ∷ 0 ∷ 0 ∷ 0 ∷ 0 ∷ 0 ∷ 0 ∷ 0 ∷ 0 ∷ 0 ∷ 0 ∷ 0
     ∷ 1 ∷ 0 ∷ 0 ∷ 0 ∷ 7 ∷ 0 ∷ 0 ∷ 0 ∷ 44 ∷ 1 ∷ 0 ∷ 0 ∷ 1 ∷ 0 ∷ 0 ∷ 0 ∷ 1 ∷ 0 ∷ 0 ∷ 0
     ∷ []
 
-unfoldable pub continuousBytes : List ℕ
-continuousBytes =
+unfoldable pub continuousArea : List ℕ
+continuousArea =
     3 ∷ 0 ∷ 3 ∷ 0 ∷ 10 ∷ 0 ∷ 0 ∷ 0 ∷ 4 ∷ 0 ∷ 0 ∷ 0 ∷ 0 ∷ 0 ∷ 0 ∷ 0
     ∷ 0 ∷ 0 ∷ 0 ∷ 0 ∷ 0 ∷ 0 ∷ 0 ∷ 0 ∷ 0 ∷ 0 ∷ 0 ∷ 0 ∷ 1 ∷ 0 ∷ 3 ∷ 0
     ∷ 14 ∷ 0 ∷ 0 ∷ 0 ∷ 0 ∷ 0 ∷ 0 ∷ 0 ∷ 0 ∷ 0 ∷ 0 ∷ 0 ∷ 0 ∷ 0 ∷ 0 ∷ 0
@@ -321,9 +321,9 @@ continuousBytes =
 
 abbrev pub BytesHold : Type 0
 BytesHold =
-    Leaves (start 1 0 15000 0 ∷ lot 1 201 51 0 0 ∷ []) creditBytes
-    × Leaves (start 2 1 2 0 ∷ lot 7 300 16 1 1 ∷ []) levelBytes
-    × Leaves (start 3 0 10 4 ∷ run 10 0 ∷ block 1 0 ∷ stop 1 2 ∷ []) continuousBytes
+    AreaStarts (start 1 0 15000 0 ∷ lot 1 201 51 0 0 ∷ []) creditArea
+    × AreaStarts (start 2 1 2 0 ∷ lot 7 300 16 1 1 ∷ []) levelArea
+    × AreaStarts (start 3 0 10 4 ∷ run 10 0 ∷ block 1 0 ∷ stop 1 2 ∷ []) continuousArea
 
 -- every case, as one claim
 abbrev pub CasesHold : Type 0

@@ -95,11 +95,11 @@ StationBackward (opened p es) area = FiguresBackward p es area
 -- Demand 3. "A stream's standing list is read off the calls on that stream, their arguments and refusal numbers."
 
 -- a call that was made, and the refusal number that it got
-pub record Made : Type 0 where
+pub record PastCall : Type 0 where
   pub request : Request
   pub refusal : ℕ
 
-unfoldable pub history : List ℕ → List Request → List Made
+unfoldable pub history : List ℕ → List Request → List PastCall
 history store [] = []
 history store (r ∷ rs) =
     record { request = r; refusal = onStore store r .answer .refusal } ∷ history (onStore store r .store) rs
@@ -116,14 +116,14 @@ afterAccepted Back (opened p (e ∷ es)) = opened p es
 afterAccepted (Ask N) st = st
 afterAccepted Read st = st
 
-unfoldable pub afterMade : ℕ → Made → Station → Station
-afterMade stream m st =
-    cond (eqb (m .request .stream) stream && eqb (m .refusal) 0) (afterAccepted (m .request .made) st) st
+unfoldable pub afterPastCall : ℕ → PastCall → Station → Station
+afterPastCall stream past st =
+    cond (eqb (past .request .stream) stream && eqb (past .refusal) 0) (afterAccepted (past .request .made) st) st
 
 -- the stream's accepted Open and its standing entries, after what was made, oldest first
-unfoldable pub standing : ℕ → Station → List Made → Station
+unfoldable pub standing : ℕ → Station → List PastCall → Station
 standing stream st [] = st
-standing stream st (m ∷ ms) = standing stream (afterMade stream m st) ms
+standing stream st (past ∷ later) = standing stream (afterPastCall stream past st) later
 
 -- "The other store": the accepted Open, if the stream was opened, then the standing entries, oldest first, each by the call and with
 -- the arguments that entered it
@@ -131,13 +131,13 @@ standing stream st (m ∷ ms) = standing stream (afterMade stream m st) ms
 abbrev pub on : ℕ → Call → Request
 on stream c = record { stream = stream; made = c }
 
-unfoldable pub entered : ℕ → List Entry → List Request
-entered stream [] = []
-entered stream (e ∷ es) = entered stream es ++ (on stream (Enter e) ∷ [])
+unfoldable pub reentered : ℕ → List Entry → List Request
+reentered stream [] = []
+reentered stream (e ∷ es) = reentered stream es ++ (on stream (Enter e) ∷ [])
 
 unfoldable pub remade : ℕ → Station → List Request
 remade stream unopened = []
-remade stream (opened p es) = on stream (Open p) ∷ entered stream es
+remade stream (opened p es) = on stream (Open p) ∷ reentered stream es
 
 unfoldable pub AllTaken : List Answer → Type 0
 AllTaken [] = Unit {0}

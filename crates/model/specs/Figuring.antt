@@ -21,17 +21,21 @@ use Rattle.model.specs.Stations.{isCredit, isLevel, isContinuous, hasOpt
 unfoldable pub noLevel : LevelState
 noLevel = record { level = 0; row = 0; judged = 0; window = 0 }
 
--- the figures when a stream is opened; figures foreign to the plan are zero
-unfoldable pub started : Plan → Figures
-started p =
+-- the figures of a new stream with this level state
+abbrev pub withLevel : LevelState → Figures
+withLevel level =
     record {
       credit = record { 0 = 0 };
-      level = cond (isLevel p) levelStart noLevel;
+      level = level;
       continuous = screening 0;
       accepted = 0;
       labelled = false;
       label = 0;
     }
+
+-- the figures when a stream is opened; figures foreign to the plan are zero
+unfoldable pub started : Plan → Figures
+started p = withLevel (cond (isLevel p) levelStart noLevel)
 
 -- the sample that a lot of size N asks for
 unfoldable pub sampleAsked : Plan → Figures → ℕ → ℕ

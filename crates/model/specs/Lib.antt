@@ -1,11 +1,12 @@
 -- Paper 01 as definitions. In the order of reading: a station and its figures, the calls on it, its bytes, the calls on the store;
--- then the figures worked out backwards, and what is claimed of it all.
+-- then how far the figures reach, the figures worked out backwards, and what is claimed of it all.
 pub mod Sizes
 pub mod Stations
 pub mod Figuring
 pub mod Calls
 pub mod Area
 pub mod Store
+pub mod FigureBounds
 pub mod Backward
 pub mod Claims
 pub mod Cases

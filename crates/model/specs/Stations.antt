@@ -3,6 +3,7 @@ use Prim.Native.Nat.{ℕ, _^_}
 use mathlib.Core.Bool.{Bool, true, cond, _&&_}
 use mathlib.Core.List.{List, [], _∷_}
 use lib.Dec.{eqb, leb, ltb}
+use Rattle.plans.specs.Limits.{largestAoql, verificationLevels, largestClearance, largestInterval}
 use Rattle.model.specs.declared.Plan.{Plan}
 use Rattle.model.specs.declared.Entry.{Entry}
 use Rattle.model.specs.declared.Entry.the-variants.{Lot, Run, Block, Stop}
@@ -33,9 +34,9 @@ within low high n = leb low n && leb n high
 -- "Calls", Open: what 5 leaves. The ranges of A and B by kind; option 0 or 1, in kind 3 only 0
 unfoldable pub validPlan : Plan → Bool
 validPlan p =
-    cond (isCredit p) (within 1 500000 (p .a) && eqb (p .b) 0 && leb (p .option) 1)
-    (cond (isLevel p) (within 1 7 (p .a) && eqb (p .b) 0 && leb (p .option) 1)
-    (isContinuous p && within 1 10000 (p .a) && within 2 200 (p .b) && eqb (p .option) 0))
+    cond (isCredit p) (within 1 largestAoql (p .a) && eqb (p .b) 0 && leb (p .option) 1)
+    (cond (isLevel p) (within 1 verificationLevels (p .a) && eqb (p .b) 0 && leb (p .option) 1)
+    (isContinuous p && within 1 largestClearance (p .a) && within 2 largestInterval (p .b) && eqb (p .option) 0))
 
 -- the arguments in the order of "Calls"
 unfoldable pub entryArguments : Entry → List ℕ

@@ -1,6 +1,7 @@
 // A station, as paper 01 has it: its plan, its standing entries, the figures that follow from them, and the calls on it. The
 // meaning is in specs/; this crate makes no call on a store.
 pub mod claims;
+pub mod sizes;
 
 use plans::continuous::Continuous;
 use plans::credit::Credit;
@@ -11,25 +12,35 @@ pub struct Plan {
     // 1 credit, 2 level, 3 continuous
     pub kind: u32,
     pub option: u32,
+    // the AOQL in millionths, the verification level, or the clearance number i
     pub a: u32,
+    // the interval g of a continuous plan, 0 in the others
     pub b: u32,
 }
 
-// What a call enters, with all of its arguments.
+// What a call enters, with all of its arguments; the letters are paper 01's.
 pub enum Entry {
     Lot {
         label: u32,
+        // N
         size: u32,
+        // n
         sample: u32,
+        // d, in the sample
         wrong: u32,
+        // D, in all that was heard
         wrong_in_all: u32,
     },
     Run {
+        // h
         right: u32,
+        // w
         wrong: u32,
     },
     Block {
+        // p
         heard: u32,
+        // w
         wrong: u32,
     },
     Stop {

@@ -5,7 +5,7 @@ use mathlib.Core.Bool.{Bool, true, false, _&&_}
 use native.Mathlib.Omega.{arith}
 use lib.Dec.{T, eqb}
 use borrow.Author.Tests.{eqb-true, eqb-false}
-use Rattle.plans.proofs.Rows.{and-left, and-right}
+use Rattle.plans.proofs.Booleans.{both-of}
 
 unfoldable pub allBelow : (ℕ → Bool) → ℕ → Bool
 allBelow f zero = true
@@ -14,8 +14,8 @@ allBelow f (suc n) = f n && allBelow f n
 pub each-below : (f : ℕ → Bool) (n i : ℕ) → T (allBelow f n) → i < n → T (f i)
 unfolding allBelow
 each-below f zero i t h = absurd (omega arith)
-each-below f (suc n) i t h = go (eqb i n) refl (λ g. each-below f n i (and-right (f n) (allBelow f n) t) g)
+each-below f (suc n) i t h = go (eqb i n) refl (λ g. each-below f n i (both-of (f n) (allBelow f n) t .1) g)
   where
     go : (b : Bool) → eqb i n ≡ b → (i < n → T (f i)) → T (f i)
-    go true e others = rw (eqb-true i n e) (and-left (f n) (allBelow f n) t)
+    go true e others = rw (eqb-true i n e) (both-of (f n) (allBelow f n) t .0)
     go false e others = others (omega (arith, eqb-false i n e))

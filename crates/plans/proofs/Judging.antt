@@ -1,6 +1,6 @@
 -- What judging a lot gives, by the level and by what became of the lot: one law for each answer of the code. Assumes nothing.
 use Prim.Native.Nat.{ℕ, zero, suc, _+_, _%_, _≤_, _<_}
-use mathlib.Core.Path.{_≡_, refl, sym, _∙_}
+use mathlib.Core.Path.{_≡_, refl, sym}
 use mathlib.Core.Bool.{Bool, true, false, cond, _&&_, and-false}
 use native.Mathlib.Omega.{arith}
 use lib.Dec.{eqb, leb, eqb→eq, leb→le}

@@ -18,7 +18,8 @@ use native.Mathlib.Omega.{arith}
 use lib.Dec.{eqb}
 use borrow.Author.Tests.{eqb-true, eqb-false}
 use Rattle.plans.specs.Credit.{roundedUp, LeastNotBelow, sampleDividend, sampleDivisor, creditSample, creditAfter}
-use Rattle.plans.proofs.Bounds.{either}
+use Rattle.plans.specs.Limits.{largestLot, largestCredit, largestAoql}
+use Rattle.plans.proofs.Booleans.{either}
 
 module _ (a b : ℕ) (positive : 0 < b) where
   pub rounded-up-least : LeastNotBelow a b (roundedUp a b)
@@ -59,8 +60,8 @@ module _ (K N A : ℕ) where
       go (suc n) e = omega arith
 
   -- no sum or product of formula (1) overflows 64 bits
-  pub product-at-most : K ≤ 128000000 → N ≤ 1000000 → A ≤ 500000 → (K + N) * A ≤ 64500000000000
-  product-at-most k n a = omega (arith, mul-le-mul {n₁ = K + N} {n₂ = 129000000} (omega arith) a)
+  pub product-at-most : K ≤ largestCredit → N ≤ largestLot → A ≤ largestAoql → (K + N) * A ≤ (largestCredit + largestLot) * largestAoql
+  product-at-most k n a = omega (arith, mul-le-mul {n₁ = K + N} {n₂ = largestCredit + largestLot} (omega arith) a)
 
 -- a lot adds at most its size to the credit
 pub credit-after-at-most : (K N d : ℕ) → creditAfter K N d ≤ K + N

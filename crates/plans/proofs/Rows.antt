@@ -2,27 +2,20 @@
 -- and each of its letters is a row of Table 2. Each is one computed test over the table. Assumes nothing.
 use Prim.Native.Nat.{ℕ, zero, suc, _+_, _-_, _≤_, _<_}
 use mathlib.Core.Path.{_≡_, refl}
-use mathlib.Core.Bool.{Bool, true, false, cond, _&&_}
+use mathlib.Core.Bool.{Bool, true, _&&_}
 use mathlib.Core.List.{List, [], _∷_}
 use native.Mathlib.Omega.{arith}
 use lib.Dec.{T, leb, ltb, leb→le, ltb→lt}
 use lib.ListN.{length, getD}
 use borrow.Author.Tests.{le-leb, lt-leb}
 use Rattle.plans.specs.Tables.{Row, table1, lastLetters, lettersIn, codeLetter}
-
-pub and-left : (a b : Bool) → T (a && b) → T a
-and-left true b t = tt
-and-left false b t = t
-
-pub and-right : (a b : Bool) → T (a && b) → T b
-and-right true b t = t
-and-right false b t = absurd t
+use Rattle.plans.proofs.Booleans.{both-of, either}
 
 -- the first lot size of the i-th row, counted from 0, where the first row starts at n
-unfoldable pub startOf : ℕ → List Row → ℕ → ℕ
-startOf n rows zero = n
-startOf n [] (suc i) = n
-startOf n (r ∷ rows) (suc i) = startOf (r .upTo + 1) rows i
+unfoldable pub rowStart : ℕ → List Row → ℕ → ℕ
+rowStart n rows zero = n
+rowStart n [] (suc i) = n
+rowStart n (r ∷ rows) (suc i) = rowStart (r .upTo + 1) rows i
 
 unfoldable pub lettersAt : List Row → ℕ → List ℕ
 lettersAt [] i = lastLetters
@@ -33,29 +26,29 @@ rising : ℕ → List Row → Bool
 rising n [] = true
 rising n (r ∷ rows) = leb n (r .upTo) && rising (r .upTo + 1) rows
 
-start-rises : (n : ℕ) (rows : List Row) (i : ℕ) → T (rising n rows) → n ≤ startOf n rows i
-unfolding startOf rising
+start-rises : (n : ℕ) (rows : List Row) (i : ℕ) → T (rising n rows) → n ≤ rowStart n rows i
+unfolding rowStart rising
 start-rises n rows zero t = omega arith
 start-rises n [] (suc i) t = omega arith
 start-rises n (r ∷ rows) (suc i) t =
     omega (
       arith,
-      start-rises (r .upTo + 1) rows i (and-right (leb n (r .upTo)) (rising (r .upTo + 1) rows) t),
-      leb→le n (r .upTo) (and-left (leb n (r .upTo)) (rising (r .upTo + 1) rows) t),
+      start-rises (r .upTo + 1) rows i (both-of (leb n (r .upTo)) (rising (r .upTo + 1) rows) t .1),
+      leb→le n (r .upTo) (both-of (leb n (r .upTo)) (rising (r .upTo + 1) rows) t .0),
     )
 
-found : (n : ℕ) (rows : List Row) (i N : ℕ) → T (rising n rows) → startOf n rows i ≤ N
-    → (i < length rows → N < startOf n rows (suc i)) → lettersIn rows N ≡ lettersAt rows i
-unfolding startOf rising lettersIn lettersAt
+found : (n : ℕ) (rows : List Row) (i N : ℕ) → T (rising n rows) → rowStart n rows i ≤ N
+    → (i < length rows → N < rowStart n rows (suc i)) → lettersIn rows N ≡ lettersAt rows i
+unfolding rowStart rising lettersIn lettersAt
 found n [] i N t from to = refl
 found n (r ∷ rows) zero N t from to = rw (le-leb N (r .upTo) (omega (arith, to (omega arith))))
 found n (r ∷ rows) (suc i) N t from to =
-    let later : T (rising (r .upTo + 1) rows) = and-right (leb n (r .upTo)) (rising (r .upTo + 1) rows) t in
+    let later : T (rising (r .upTo + 1) rows) = both-of (leb n (r .upTo)) (rising (r .upTo + 1) rows) t .1 in
     rw
     (lt-leb N (r .upTo) (omega (arith, start-rises (r .upTo + 1) rows i later)))
     (found (r .upTo + 1) rows i N later from (λ h. to (omega arith)))
 
-pub row-found : (i N : ℕ) → startOf 0 table1 i ≤ N → (i < 10 → N < startOf 0 table1 (suc i))
+pub row-found : (i N : ℕ) → rowStart 0 table1 i ≤ N → (i < 10 → N < rowStart 0 table1 (suc i))
     → lettersIn table1 N ≡ lettersAt table1 i
 unfolding rising table1
 row-found i N from to = found 0 table1 i N tt from to
@@ -72,21 +65,17 @@ haveLetters (r ∷ rows) = areLetters (r .letters) && haveLetters rows
 letter-at : (ls : List ℕ) (k : ℕ) → T (areLetters ls) → getD ls k 0 < 5
 unfolding areLetters
 letter-at [] k t = omega arith
-letter-at (l ∷ ls) zero t = ltb→lt l 5 (and-left (ltb l 5) (areLetters ls) t)
-letter-at (l ∷ ls) (suc k) t = letter-at ls k (and-right (ltb l 5) (areLetters ls) t)
+letter-at (l ∷ ls) zero t = ltb→lt l 5 (both-of (ltb l 5) (areLetters ls) t .0)
+letter-at (l ∷ ls) (suc k) t = letter-at ls k (both-of (ltb l 5) (areLetters ls) t .1)
 
 letters-in : (rows : List Row) (N k : ℕ) → T (haveLetters rows) → getD (lettersIn rows N) k 0 < 5
 unfolding areLetters haveLetters lettersIn lastLetters
 letters-in [] N k t = letter-at lastLetters k tt
 letters-in (r ∷ rows) N k t =
-    go (leb N (r .upTo))
-    (letter-at (r .letters) k (and-left (areLetters (r .letters)) (haveLetters rows) t))
-    (letters-in rows N k (and-right (areLetters (r .letters)) (haveLetters rows) t))
-  where
-    go : (here : Bool) → getD (r .letters) k 0 < 5 → getD (lettersIn rows N) k 0 < 5
-        → getD (cond here (r .letters) (lettersIn rows N)) k 0 < 5
-    go true a b = a
-    go false a b = b
+    let parts = both-of (areLetters (r .letters)) (haveLetters rows) t in
+    either (λ (letters : List ℕ). getD letters k 0 < 5) (leb N (r .upTo))
+    (letter-at (r .letters) k (parts .0))
+    (letters-in rows N k (parts .1))
 
 pub code-letter-below : (vl N : ℕ) → codeLetter vl N < 5
 unfolding codeLetter areLetters haveLetters table1

@@ -1,7 +1,8 @@
-// Continuous sampling: paper 01, "Continuous".
+// Continuous sampling: paper 01, "Continuous". What a stop does (`afterStop` in specs/) has its code in the replay, `replay_continuous`.
 ghost use mathlib.Core.Path.{_≡_};
 ghost use Prim.Native.Nat.{_+_, _≤_};
-ghost use Rattle.plans.specs.Continuous.{screening, sampling, afterRun, afterBlock, afterStop};
+ghost use Rattle.plans.specs.Continuous.{screening, sampling, afterRun, afterBlock};
+ghost use Rattle.plans.specs.Limits.{largestClearance, largestInterval};
 
 pub const SCREENING: u8 = 0;
 
@@ -47,52 +48,37 @@ impl Continuous {
         }
     }
 
-    // A run in screening: h right detections, then a wrong one if wrong.
-    pub fn run(self, clearance: u32, h: u32, wrong: bool) -> Self
-        requires { ⌜ (self .count + h ≤ clearance) × (clearance ≤ 10000) ⌝ }
-        ensures { λ r. ⌜ r ≡ afterRun clearance h wrong self ⌝ }
+    // A run in screening: so many right detections, then a wrong one if wrong.
+    pub fn run(self, clearance: u32, right: u32, wrong: bool) -> Self
+        requires { ⌜ (self .count + right ≤ clearance) × (clearance ≤ largestClearance) ⌝ }
+        ensures { λ r. ⌜ r ≡ afterRun clearance right wrong self ⌝ }
     {
         if wrong {
             return Self::screen(0);
         }
-        let count = self.count + h;
+        let count = self.count + right;
         if count == clearance {
             return Self::sample(0);
         }
         Self::screen(count)
     }
 
-    // A block in sampling, of which the p-th detection is heard.
-    pub fn block(self, interval: u32, p: u32, wrong: bool) -> Block
-        requires { ⌜ (1 ≤ p) × (p ≤ interval) × (interval ≤ 200) ⌝ }
-        ensures { λ r. ⌜ r ≡ afterBlock interval p wrong self ⌝ }
+    // A block in sampling, of which one detection is heard, counted from 1.
+    pub fn block(self, interval: u32, heard: u32, wrong: bool) -> Block
+        requires { ⌜ (1 ≤ heard) × (heard ≤ interval) × (interval ≤ largestInterval) ⌝ }
+        ensures { λ r. ⌜ r ≡ afterBlock interval heard wrong self ⌝ }
     {
         if wrong {
             return Block {
                 state: Self::screen(0),
-                accepted: p - 1,
-                hear_back: self.tail as u32 + p - 1,
+                accepted: heard - 1,
+                hear_back: self.tail as u32 + heard - 1,
             };
         }
         Block {
-            state: Self::sample((interval - p) as u16),
+            state: Self::sample((interval - heard) as u16),
             accepted: interval,
             hear_back: 0,
         }
-    }
-
-    // Meets a stop.
-    pub fn stop(self, why: u32, days: u32) -> Self
-        ensures { λ r. ⌜ r ≡ afterStop why days self ⌝ }
-    {
-        if why == 2 {
-            return Self::screen(0);
-        }
-        if self.phase == SAMPLING {
-            if 3 < days {
-                return Self::screen(0);
-            }
-        }
-        self
     }
 }

@@ -10,6 +10,7 @@ ghost use Rattle.plans.specs.Credit.{
   sampleDivisor,
   LeastNotBelow,
 };
+ghost use Rattle.plans.specs.Limits.{largestCredit, largestLot, largestAoql};
 use crate::LotSize;
 use crate::SampleSize;
 use crate::verdict;
@@ -20,7 +21,7 @@ pub struct Credit(pub u32);
 impl Credit {
     // The sample that a lot asks for, where the AOQL is limit millionths: clause 10 a).
     pub fn sample(self, size: LotSize, limit: u32) -> SampleSize
-        requires { ⌜ (self .0 ≤ 128000000) × (1 ≤ size .0) × (size .0 ≤ 1000000) × (limit ≤ 500000) ⌝ }
+        requires { ⌜ (self .0 ≤ largestCredit) × (1 ≤ size .0) × (size .0 ≤ largestLot) × (limit ≤ largestAoql) ⌝ }
         ensures { λ r. ⌜ r .0 ≡ creditSample (self .0) (size .0) limit ⌝ }
         ensures least { λ r. ⌜ LeastNotBelow (sampleDividend (size .0)) (sampleDivisor (self .0) (size .0) limit) (r .0) ⌝ }
         ensures range { λ r. ⌜ (1 ≤ r .0) × (r .0 ≤ size .0) ⌝ }
@@ -31,11 +32,11 @@ impl Credit {
         SampleSize(rounded_up(dividend, divisor) as u32)
     }
 
-    // The verdict on a lot with d wrong in its sample: clause 10 b) and c).
-    pub fn verdict(self, hear_all: bool, d: u32) -> u32
-        ensures { λ r. ⌜ r ≡ creditVerdict (self .0) «hear_all» d ⌝ }
+    // The verdict on a lot with so many wrong in its sample: clause 10 b) and c).
+    pub fn verdict(self, hear_all: bool, wrong: u32) -> u32
+        ensures { λ r. ⌜ r ≡ creditVerdict (self .0) «hear_all» wrong ⌝ }
     {
-        if d == 0 {
+        if wrong == 0 {
             verdict::ACCEPTED
         } else if self.0 == 0 {
             verdict::HEARD
@@ -46,12 +47,12 @@ impl Credit {
         }
     }
 
-    // The credit after a lot with d wrong in its sample: clause 10 b) and c).
-    pub fn after(self, size: LotSize, d: u32) -> Credit
-        requires { ⌜ (self .0 ≤ 128000000) × (size .0 ≤ 1000000) ⌝ }
-        ensures { λ r. ⌜ r .0 ≡ creditAfter (self .0) (size .0) d ⌝ }
+    // The credit after a lot with so many wrong in its sample: clause 10 b) and c).
+    pub fn after(self, size: LotSize, wrong: u32) -> Credit
+        requires { ⌜ (self .0 ≤ largestCredit) × (size .0 ≤ largestLot) ⌝ }
+        ensures { λ r. ⌜ r .0 ≡ creditAfter (self .0) (size .0) wrong ⌝ }
     {
-        if d == 0 {
+        if wrong == 0 {
             Credit(self.0 + size.0)
         } else {
             Credit(0)

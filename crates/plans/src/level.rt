@@ -2,7 +2,9 @@
 ghost use mathlib.Core.Path.{_≡_};
 ghost use mathlib.Core.Bool.{Bool, true, false};
 ghost use Prim.Native.Nat.{_<_};
+ghost use Rattle.plans.specs.Severities.{normal, tightened};
 ghost use Rattle.plans.specs.Levels.{levelStart, shifted, withheldIn, arrived, judgedLot, metStop};
+use crate::stops;
 
 pub const REDUCED: u32 = 0;
 
@@ -73,11 +75,11 @@ impl LevelState {
         if self.level != REDUCED {
             return self;
         }
-        if why == 2 {
+        if why == stops::SET_UP_CHANGED {
             self = self.arrive(NORMAL);
             return self;
         }
-        if 3 < days {
+        if stops::SHORT_STOP < days {
             self = self.arrive(NORMAL);
         }
         self
@@ -85,7 +87,7 @@ impl LevelState {
 
     // An accepted lot on normal: two withheld ones in the window lead to tightened, ten accepted in a row to reduced.
     fn accept_on_normal(mut self, permits_reduced: bool) -> Self
-        requires { ⌜ (self .level ≡ 1) × (self .row < 255) ⌝ }
+        requires { ⌜ (self .level ≡ normal) × (self .row < 255) ⌝ }
         ensures { λ r. ⌜ r ≡ judgedLot «permits_reduced» false self ⌝ }
     {
         self.window = shift_in(self.window, false);
@@ -104,7 +106,7 @@ impl LevelState {
 
     // An accepted lot on tightened: the fifth in a row leads to normal, else the tenth lot judged there ends the stream.
     fn accept_on_tightened(mut self) -> Self
-        requires { ⌜ (self .level ≡ 2) × (self .row < 255) × (self .judged < 255) ⌝ }
+        requires { ⌜ (self .level ≡ tightened) × (self .row < 255) × (self .judged < 255) ⌝ }
         ensures { λ r. ⌜ ((permits : Bool) → r ≡ judgedLot permits false self) ⌝ }
     {
         self.window = shift_in(self.window, false);
@@ -121,7 +123,7 @@ impl LevelState {
 
     // An accepted lot on reduced, which moves nothing. (None is judged where the stream is discontinued.)
     fn accept_elsewhere(mut self) -> Self
-        requires { ⌜ (self .level ≡ 1 → ⊥) × (self .level ≡ 2 → ⊥) × (self .row < 255) ⌝ }
+        requires { ⌜ (self .level ≡ normal → ⊥) × (self .level ≡ tightened → ⊥) × (self .row < 255) ⌝ }
         ensures { λ r. ⌜ ((permits : Bool) → r ≡ judgedLot permits false self) ⌝ }
     {
         self.window = shift_in(self.window, false);

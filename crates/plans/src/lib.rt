@@ -3,6 +3,8 @@
 pub mod continuous;
 pub mod credit;
 pub mod level;
+pub mod limits;
+pub mod stops;
 pub mod tables;
 pub mod verdict;
 

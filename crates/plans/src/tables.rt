@@ -1,8 +1,8 @@
 // Code letters and sample sizes: document 000 (ISO 28594), Tables 1 and 2.
 ghost use mathlib.Core.Path.{_≡_};
 ghost use Prim.Native.Nat.{_≤_, _<_, _-_};
-ghost use lib.ListN.{getD};
 ghost use Rattle.plans.specs.Tables.{table1, lettersIn, codeLetter, columnAt, tabled, levelSample};
+ghost use Rattle.plans.specs.Limits.{verificationLevels};
 use crate::LotSize;
 use crate::SampleSize;
 use crate::level;
@@ -29,7 +29,7 @@ const SAMPLE_SIZES: [[u32; 9]; 5] = [
 
 // The sample that a lot asks for at the stated verification level and the severity in force.
 pub fn sample_size(vl: u32, severity: u32, size: LotSize) -> SampleSize
-    requires { ⌜ (1 ≤ vl) × (vl ≤ 7) ⌝ }
+    requires { ⌜ (1 ≤ vl) × (vl ≤ verificationLevels) ⌝ }
     ensures { λ r. ⌜ r .0 ≡ levelSample vl severity (size .0) ⌝ }
     ensures range { λ r. ⌜ r .0 ≤ size .0 ⌝ }
 {
@@ -45,7 +45,7 @@ pub fn sample_size(vl: u32, severity: u32, size: LotSize) -> SampleSize
 
 // The code letter of a lot size at the stated verification level.
 pub fn code_letter(vl: usize, size: LotSize) -> usize
-    requires { ⌜ (1 ≤ vl) × (vl ≤ 7) ⌝ }
+    requires { ⌜ (1 ≤ vl) × (vl ≤ verificationLevels) ⌝ }
     ensures { λ r. ⌜ (r ≡ codeLetter vl (size .0)) × (r < 5) ⌝ }
 {
     let row = letters(size);
@@ -54,7 +54,7 @@ pub fn code_letter(vl: usize, size: LotSize) -> usize
 
 // The column of Table 2 at a severity.
 fn column(vl: usize, severity: u32) -> usize
-    requires { ⌜ (1 ≤ vl) × (vl ≤ 7) ⌝ }
+    requires { ⌜ (1 ≤ vl) × (vl ≤ verificationLevels) ⌝ }
     ensures { λ r. ⌜ (r ≡ columnAt vl severity) × (r < 9) ⌝ }
 {
     if severity == level::TIGHTENED {

@@ -11,22 +11,22 @@ pub const HEARD: u32 = 2;
 // Not accepted: a credit lot returned whole, a level lot withheld.
 pub const WITHHELD: u32 = 3;
 
-// The verdict on a level lot with d wrong in its sample.
-pub fn of_level_lot(d: u32) -> u32
-    ensures { λ r. ⌜ r ≡ levelVerdict d ⌝ }
+// The verdict on a level lot with so many wrong in its sample.
+pub fn of_level_lot(wrong: u32) -> u32
+    ensures { λ r. ⌜ r ≡ levelVerdict wrong ⌝ }
 {
-    if d == 0 { ACCEPTED } else { WITHHELD }
+    if wrong == 0 { ACCEPTED } else { WITHHELD }
 }
 
-// How many of a lot's detections are accepted, where wrong were found wrong in all that was heard.
-pub fn accepted_of(verdict: u32, size: LotSize, wrong: u32) -> u32
-    requires { ⌜ wrong ≤ size .0 ⌝ }
-    ensures { λ r. ⌜ r ≡ acceptedOf verdict (size .0) wrong ⌝ }
+// How many of a lot's detections are accepted.
+pub fn accepted_of(verdict: u32, size: LotSize, wrong_in_all: u32) -> u32
+    requires { ⌜ «wrong_in_all» ≤ size .0 ⌝ }
+    ensures { λ r. ⌜ r ≡ acceptedOf verdict (size .0) «wrong_in_all» ⌝ }
 {
     if verdict == ACCEPTED {
         size.0
     } else if verdict == HEARD {
-        size.0 - wrong
+        size.0 - wrong_in_all
     } else {
         0
     }

@@ -11,19 +11,12 @@ ghost use Rattle.model.specs.Area.{zeros, planBytes, figureBytes, recordBytes, 
 ghost use Rattle.records.specs.Records.{recordIn, recordAt, levelBytes, continuousBytes, LevelFits, Decides, ZeroBetween};
 use model::Figures;
 use model::Plan;
+use model::sizes::AREA_LENGTH;
+use model::sizes::HEADER_LENGTH;
+use model::sizes::RECORD_LENGTH;
 use plans::continuous::Continuous;
 use plans::credit::Credit;
 use plans::level::LevelState;
-
-pub const RECORD_LENGTH: usize = 20;
-
-// Where the records start in an area.
-pub const HEADER_LENGTH: usize = 48;
-
-pub const MOST_RECORDS: usize = 128;
-
-// 2,608
-pub const AREA_LENGTH: usize = HEADER_LENGTH + RECORD_LENGTH * MOST_RECORDS;
 
 // So many bytes are looked at in one go where zeros are searched: a quarter of the records.
 const WINDOW_LENGTH: usize = RECORD_LENGTH * 32;

@@ -9,6 +9,7 @@ ghost use Rattle.replaying.specs.Replaying.{Ready, Replayed};
 ghost use Rattle.replay.specs.Standing.{nothingStands, standingOf, Headed, HeaderFits};
 use model::Figures;
 use model::Plan;
+use model::sizes;
 use replaying::Entered;
 use rules::plan;
 
@@ -75,7 +76,7 @@ pub fn read(area: &[u8], newest: usize) -> Standing
         return nothing(false);
     }
     let count = records::get_count(area);
-    if records::MOST_RECORDS < count {
+    if sizes::MOST_RECORDS < count {
         return nothing(false);
     }
     read_records(area, plan, count, newest)
@@ -87,10 +88,7 @@ fn read_records(area: &[u8], plan: Plan, count: usize, newest: usize) -> Standin
     requires { ⌜ Headed (now area) plan count ⌝ }
     ensures { λ r. ⌜ r ≡ standingOf newest (reading (now (area .entry))) ⌝ }
 {
-    if !records::is_zero_from(
-        area,
-        records::HEADER_LENGTH + records::RECORD_LENGTH * count,
-    ) {
+    if !records::is_zero_from(area, sizes::HEADER_LENGTH + sizes::RECORD_LENGTH * count) {
         return nothing(false);
     }
     let first = without(count, newest);

@@ -14,10 +14,9 @@ use Rattle.model.specs.declared.Entry.the-variants.{Run, Block, Stop}
 use Rattle.model.specs.declared.Figures.{Figures}
 use Rattle.model.specs.Stations.{isLevel, isContinuous, within}
 use Rattle.model.specs.Figuring.{stepped, creditStep, levelStep, continuousStep, acceptedBy, isLot, labelOf}
-use Rattle.model.specs.Calls.{isDiscontinued}
+use Rattle.model.specs.Calls.{isDiscontinued, accepts}
 use Rattle.model.proofs.Booleans.{both-true, never-both, within-of}
 use Rattle.model.proofs.Allowed.{AllowedRun, AllowedBlock, continuous-plan}
-use Rattle.rules.specs.Replayed.{accepts}
 use Rattle.records.specs.declared.Record.{Record}
 use Rattle.replaying.specs.Replaying.{headOf, isStop, entryOf, wellFormed, soundAt, unsoundAt, NoMore}
 use Rattle.replaying.proofs.Answers.{accepted, run-formed, run-of, block-formed, block-of, stop-formed, stop-of, no-more}

@@ -4,15 +4,14 @@ use mathlib.Core.Path.{_≡_, refl, _∙_}
 use mathlib.Core.Bool.{Bool, true, false, cond, not, _&&_, _||_}
 use native.Mathlib.Omega.{arith}
 use lib.Dec.{eqb, leb, ltb}
-use borrow.Author.Tests.{eq-eqb, ne-eqb, le-leb, lt-leb, le-ltb, eqb-true, leb-true, ltb-false, eqb-false}
+use borrow.Author.Tests.{eq-eqb, ne-eqb, le-leb, lt-leb, le-ltb, eqb-true, leb-true, ltb-false, eqb-false, not-false}
 use Rattle.model.specs.declared.Plan.{Plan}
 use Rattle.model.specs.declared.Entry.the-variants.{Run, Block, Stop}
 use Rattle.model.specs.declared.Figures.{Figures}
 use Rattle.model.specs.Stations.{isContinuous, within}
-use Rattle.model.specs.Calls.{firstOf, entryRefusals, isDiscontinued, isFull}
-use Rattle.model.proofs.Booleans.{both-true, neither-of, not-false-of, never-both}
+use Rattle.model.specs.Calls.{firstOf, entryRefusals, isDiscontinued, isFull, accepts}
+use Rattle.model.proofs.Booleans.{both-true, neither-of, never-both}
 use Rattle.model.proofs.Allowed.{AllowedRun, AllowedBlock, allowed-lot, allowed-run, allowed-block, passed}
-use Rattle.rules.specs.Replayed.{accepts}
 use Rattle.records.specs.declared.Record.{Record}
 use Rattle.replaying.specs.Replaying.{headOf, isStop, entryOf, wellFormed, stands, entered, unsoundAt, NoMore}
 use Rattle.replaying.proofs.Answers.{lot-of, run-of, block-of, stop-of, accepted-zero, no-more}
@@ -130,7 +129,7 @@ module _ (p : Plan) (f : Figures) (i : ℕ) where
       let fifteen = passed 15 _ _ (omega arith) (nine .1) in
       let outer = neither-of (not (within 1 2 why) || ltb 255 days) (eqb why 2 && ltb 0 days) (fifteen .0) in
       let inner = neither-of (not (within 1 2 why)) (ltb 255 days) (outer .0) in
-      let reason = both-true (leb 1 why) (leb why 2) (not-false-of _ (inner .0)) in
+      let reason = both-true (leb 1 why) (leb why 2) (not-false _ (inner .0)) in
       record {
         first = leb-true 1 why (reason .0);
         last = leb-true why 2 (reason .1);

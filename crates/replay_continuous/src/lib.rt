@@ -13,6 +13,7 @@ use model::Figures;
 use model::Plan;
 use plans::continuous;
 use plans::continuous::Continuous;
+use plans::stops;
 use records::Record;
 use replaying::Entered;
 use rules::plan;
@@ -123,7 +124,7 @@ fn enter_sampling(plan: Plan, tail: u32, accepted: u64, head: u32, read: Record)
         if head == replaying::CHANGE {
             return stand(plan.a, 0, accepted);
         }
-        if 3 < heard {
+        if stops::SHORT_STOP < heard {
             return stand(plan.a, 0, accepted);
         }
         return stand(0, tail, accepted);

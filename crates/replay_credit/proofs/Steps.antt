@@ -23,9 +23,8 @@ use Rattle.model.specs.Figuring.{
   labelOf,
   stepped,
 }
-use Rattle.model.specs.Calls.{firstOf, entryRefusals, isDiscontinued, isFull, sameLabel, sizeInRange}
+use Rattle.model.specs.Calls.{firstOf, entryRefusals, isDiscontinued, isFull, sameLabel, sizeInRange, accepts}
 use Rattle.records.specs.declared.Record.{Record}
-use Rattle.rules.specs.Replayed.{accepts}
 use Rattle.replaying.specs.declared.Entered.{Entered}
 use Rattle.replaying.specs.Replaying.{entryOf, headOf, isStop, entered, soundAt, unsoundAt}
 use Rattle.replaying.proofs.Heads.{head-is}

@@ -5,7 +5,7 @@ use native.Mathlib.Omega.{arith}
 use lib.Dec.{eqb, leb, leb→le}
 use Rattle.plans.specs.Severities.{reduced, tightened}
 use Rattle.plans.specs.Tables.{table2, codeLetter, columnAt, tabled, levelSample}
-use Rattle.plans.proofs.Bounds.{either}
+use Rattle.plans.proofs.Booleans.{either}
 use Rattle.plans.proofs.Below.{allBelow, each-below}
 use Rattle.plans.proofs.Rows.{code-letter-below}
 

@@ -25,9 +25,8 @@ use Rattle.model.specs.Figuring.{
   labelOf,
   stepped,
 }
-use Rattle.model.specs.Calls.{firstOf, entryRefusals, isDiscontinued, isFull, sameLabel, sizeInRange, countsAgree}
+use Rattle.model.specs.Calls.{firstOf, entryRefusals, isDiscontinued, isFull, sameLabel, sizeInRange, countsAgree, accepts}
 use Rattle.records.specs.declared.Record.{Record}
-use Rattle.rules.specs.Replayed.{accepts}
 use Rattle.replaying.specs.declared.Entered.{Entered}
 use Rattle.replaying.specs.Replaying.{entryOf, wellFormed, stands, headOf, isStop, entered, soundAt, unsoundAt}
 use Rattle.replaying.proofs.Heads.{head-is}

@@ -12,7 +12,7 @@ use Rattle.model.specs.Sizes.{areaLength}
 use Rattle.model.specs.Stations.{validPlan}
 use Rattle.model.specs.Area.{entriesIn}
 use Rattle.model.proofs.Allowed.{level-plan}
-use Rattle.model.proofs.FigureBounds.{FiguresWithin}
+use Rattle.model.specs.FigureBounds.{FiguresWithin}
 use Rattle.records.specs.Records.{recordIn, recordAt}
 use Rattle.replaying.specs.Replaying.{entered, soundAt, unsoundAt, recordsIn, figuresTo, standTo, Replayed}
 use Rattle.replaying.proofs.Heads.{kind-byte, flag-byte, label-word}

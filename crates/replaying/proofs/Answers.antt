@@ -3,16 +3,15 @@ use Prim.Native.Nat.{ℕ}
 use mathlib.Core.Path.{_≡_, sym, _∙_}
 use mathlib.Core.Bool.{Bool, true, false, cond, not, _&&_, and-false}
 use lib.Dec.{eqb}
-use borrow.Author.Tests.{eqb-true, ne-eqb}
+use borrow.Author.Tests.{eqb-true, ne-eqb, not-false}
 use Rattle.model.specs.declared.Plan.{Plan}
 use Rattle.model.specs.declared.Entry.{Entry}
 use Rattle.model.specs.declared.Figures.{Figures}
 use Rattle.model.specs.Figuring.{stepped, sampleAsked}
 use Rattle.model.specs.declared.Entry.the-variants.{Lot, Run, Block, Stop}
-use Rattle.model.specs.Calls.{firstOf, entryRefusals}
-use Rattle.model.proofs.Booleans.{both-true, not-false-of}
+use Rattle.model.specs.Calls.{firstOf, entryRefusals, accepts}
+use Rattle.model.proofs.Booleans.{both-true}
 use Rattle.records.specs.declared.Record.{Record}
-use Rattle.rules.specs.Replayed.{accepts}
 use Rattle.replaying.specs.Replaying.{entryOf, wellFormed, stands, entered, soundAt, unsoundAt, NoMore}
 
 module _ (p : Plan) (f : Figures) (i : ℕ) (r : Record) where
@@ -80,7 +79,7 @@ module _ (p : Plan) (f : Figures) (i : ℕ) (r : Record) where
 -- a record of which it was tested that it has no more numbers
 pub no-more : (r : Record) (more : Bool) → more ≡ not (eqb (r .b) 0 && eqb (r .c) 0 && eqb (r .d) 0) → more ≡ false → NoMore r
 no-more r more e none =
-    let all = both-true (eqb (r .b) 0 && eqb (r .c) 0) (eqb (r .d) 0) (not-false-of _ (sym e ∙ none)) in
+    let all = both-true (eqb (r .b) 0 && eqb (r .c) 0) (eqb (r .d) 0) (not-false _ (sym e ∙ none)) in
     let two = both-true (eqb (r .b) 0) (eqb (r .c) 0) (all .0) in
     record {
       noSecond = eqb-true (r .b) 0 (two .0);

@@ -18,7 +18,7 @@ use Rattle.model.specs.declared.Figures.{Figures}
 use Rattle.model.specs.Sizes.{recordLength, headerLength, mostRecords, areaLength}
 use Rattle.model.specs.Stations.{unopened, opened, validPlan, entryArguments, allWords}
 use Rattle.model.specs.Figuring.{stepped, figuresOf}
-use Rattle.model.specs.Calls.{firstOf, entryRefusals, admissible}
+use Rattle.model.specs.Calls.{firstOf, entryRefusals, admissible, accepts}
 use Rattle.model.specs.Area.{
   zeros,
   planBytes,
@@ -36,7 +36,8 @@ use Rattle.model.specs.Area.{
 use Rattle.model.proofs.Booleans.{both-true}
 use Rattle.model.proofs.Allowed.{newest-of, count-within, plan-range}
 use Rattle.model.proofs.Keeping.{plan-of, entries-of, opened-admissible, entry-admissible}
-use Rattle.model.proofs.FigureBounds.{FiguresWithin, figures-within}
+use Rattle.model.specs.FigureBounds.{FiguresWithin}
+use Rattle.model.proofs.FigureBounds.{figures-within}
 use Rattle.model.proofs.AreaReading.{
   length-record,
   length-records,
@@ -47,7 +48,6 @@ use Rattle.model.proofs.AreaReading.{
   reading-of-area,
   area-of-reading,
 }
-use Rattle.rules.specs.Replayed.{accepts}
 use Rattle.records.specs.Records.{recordIn, recordAt}
 use Rattle.records.proofs.Laws.{part-bytes, part-part, part-of-byte, part-join, record-at}
 use Rattle.replaying.specs.Replaying.{entryOf, wellFormed, stands, recordsIn, figuresTo, standTo}

@@ -10,7 +10,7 @@ use lib.Seq.{take-all}
 use borrow.Author.Tests.{eqb-true}
 use Rattle.little.specs.Little.{bytes, value, part, AreBytes}
 use Rattle.little.proofs.Laws.{value-range, length-part}
-use Rattle.plans.proofs.Bounds.{either}
+use Rattle.plans.proofs.Booleans.{either}
 use Rattle.rules.proofs.Counts.{sample-at-most}
 use Rattle.model.specs.declared.Plan.{Plan}
 use Rattle.model.specs.declared.Entry.{Entry}

@@ -9,10 +9,9 @@ use Rattle.model.specs.declared.Plan.{Plan}
 use Rattle.model.specs.declared.Figures.{Figures}
 use Rattle.model.specs.declared.Entry.the-variants.{Stop}
 use Rattle.model.specs.Stations.{isContinuous, within}
-use Rattle.model.specs.Calls.{firstOf, entryRefusals, isDiscontinued, isFull}
+use Rattle.model.specs.Calls.{firstOf, entryRefusals, isDiscontinued, isFull, accepts}
 use Rattle.model.proofs.Booleans.{never-both}
 use Rattle.records.specs.declared.Record.{Record}
-use Rattle.rules.specs.Replayed.{accepts}
 use Rattle.replaying.specs.Replaying.{wellFormed, stands, headOf, isStop, NoMore}
 use Rattle.replaying.proofs.Answers.{
   run-formed,

@@ -10,11 +10,11 @@ use Rattle.model.specs.declared.Plan.{Plan}
 use Rattle.model.specs.declared.Entry.{Entry}
 use Rattle.model.specs.declared.Entry.the-variants.{Lot, Run, Block, Stop}
 use Rattle.model.specs.declared.Figures.{Figures}
+use Rattle.model.specs.Calls.{accepts}
 use Rattle.model.specs.Sizes.{recordLength, headerLength, mostRecords, areaLength}
 use Rattle.model.specs.Stations.{validPlan}
 use Rattle.model.specs.Figuring.{sampleAsked, stepped, figuresOf}
 use Rattle.model.specs.Area.{entriesIn}
-use Rattle.rules.specs.Replayed.{accepts}
 use Rattle.records.specs.declared.Record.{Record}
 use Rattle.records.specs.Records.{recordIn, recordAt}
 use Rattle.replaying.specs.declared.Entered.{Entered}

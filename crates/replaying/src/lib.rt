@@ -7,6 +7,7 @@ ghost use Rattle.model.specs.Sizes.{areaLength, mostRecords};
 ghost use Rattle.records.specs.Records.{recordIn, recordAt};
 ghost use Rattle.replaying.specs.Replaying.{headOf, isStop, noneWrong};
 use model::Figures;
+use model::sizes;
 use records::Record;
 
 // Records entered: whether each could stand there, and the figures after them.
@@ -74,6 +75,6 @@ pub fn has_none_wrong(area: &[u8], i: usize) -> bool
     requires { ⌜ (length (now area) ≡ areaLength) × (i < mostRecords) ⌝ }
     ensures { λ r. ⌜ r ≡ noneWrong (recordIn (recordAt (now (area .entry)) i)) ⌝ }
 {
-    let at = records::HEADER_LENGTH + records::RECORD_LENGTH * i;
+    let at = sizes::HEADER_LENGTH + sizes::RECORD_LENGTH * i;
     little::get_u64(area, at + 12) == 0
 }

@@ -1,27 +1,28 @@
 -- A lot's counts: what refusal 13 leaves. Assumes nothing.
 use Prim.Native.Nat.{ℕ, _+_, _-_, _≤_}
 use mathlib.Core.Path.{_≡_, refl, sym, _∙_}
-use mathlib.Core.Bool.{Bool, true, false, cond, not, _||_, and-true}
+use mathlib.Core.Bool.{Bool, true, false, not, _||_}
 use native.Mathlib.Omega.{arith}
-use lib.Dec.{eqb, leb, leb·zero}
-use borrow.Author.Tests.{eqb-true, leb-true}
+use lib.Dec.{eqb, leb}
+use borrow.Author.Tests.{eqb-true, leb-true, not-false}
+use Rattle.plans.specs.Limits.{largestLot}
 use Rattle.plans.specs.Credit.{creditVerdict}
-use Rattle.plans.specs.Verdicts.{lotAccepted, lotHeard, lotWithheld, levelVerdict}
+use Rattle.plans.specs.Verdicts.{lotHeard, lotWithheld, levelVerdict}
 use Rattle.plans.specs.Tables.{levelSample}
-use Rattle.plans.proofs.Bounds.{either}
+use Rattle.plans.proofs.Booleans.{either}
 use Rattle.plans.proofs.RoundedUp.{credit-sample-at-most}
 use Rattle.model.specs.declared.Plan.{Plan}
 use Rattle.model.specs.declared.Figures.{Figures}
 use Rattle.model.specs.Stations.{isCredit, hasOption, within}
 use Rattle.model.specs.Figuring.{sampleAsked, verdictOn}
 use Rattle.model.specs.Calls.{countsAgree, sizeInRange}
-use Rattle.model.proofs.Booleans.{both-true, within-of, never-both, not-false-of}
+use Rattle.model.proofs.Booleans.{both-true, within-of, never-both}
 use Rattle.model.proofs.Allowed.{AllowedLot}
 use Rattle.model.proofs.FigureBounds.{lot-size-range}
 
 -- the size of a lot that passed refusal 11
-pub size-passed : (p : Plan) (N : ℕ) (out : Bool) → out ≡ not (sizeInRange p N) → out ≡ false → (1 ≤ N) × (N ≤ 1000000)
-size-passed p N out e passed = lot-size-range p N (not-false-of (sizeInRange p N) (sym e ∙ passed))
+pub size-passed : (p : Plan) (N : ℕ) (out : Bool) → out ≡ not (sizeInRange p N) → out ≡ false → (1 ≤ N) × (N ≤ largestLot)
+size-passed p N out e passed = lot-size-range p N (not-false (sizeInRange p N) (sym e ∙ passed))
 
 -- no sample is larger than its lot
 pub sample-at-most : (p : Plan) (f : Figures) (N : ℕ) → sampleAsked p f N ≤ N
@@ -35,15 +36,15 @@ implied true b e h = e
 implied false b e h = absurd (never-both false h refl)
 
 -- what counts that agree say
-record Counted (verdict N n d D : ℕ) : Type 0 where
+record AgreedCounts (verdict N n d D : ℕ) : Type 0 where
   inSample : d ≤ n
   none : eqb d 0 ≡ true → D ≡ 0
   heard : eqb verdict lotHeard ≡ true → D ≤ N - n + d
   withheld : eqb verdict lotWithheld ≡ true → D ≡ d
 
-counted : (verdict N n d D : ℕ) → countsAgree verdict N n d D ≡ true → Counted verdict N n d D
+agreed-counts : (verdict N n d D : ℕ) → countsAgree verdict N n d D ≡ true → AgreedCounts verdict N n d D
 unfolding countsAgree
-counted verdict N n d D e =
+agreed-counts verdict N n d D e =
     let three = both-true _ (not (eqb verdict lotWithheld) || eqb D d) e in
     let two = both-true _ (not (eqb verdict lotHeard) || within d (N - n + d) D) (three .0) in
     let one = both-true (leb d n) (not (eqb d 0) || eqb D 0) (two .0) in
@@ -66,13 +67,13 @@ all-at-most p f count label N n d D allowed = go (eqb d 0) refl
     sampled = omega (arith, allowed .sample, sample-at-most p f N)
 
     heard : Fits lotHeard
-    heard e = omega (arith, sampled, counted _ N n d D e .inSample, counted _ N n d D e .heard refl)
+    heard e = omega (arith, sampled, agreed-counts _ N n d D e .inSample, agreed-counts _ N n d D e .heard refl)
 
     withheld : Fits lotWithheld
-    withheld e = omega (arith, sampled, counted _ N n d D e .inSample, counted _ N n d D e .withheld refl)
+    withheld e = omega (arith, sampled, agreed-counts _ N n d D e .inSample, agreed-counts _ N n d D e .withheld refl)
 
     go : (none : Bool) → eqb d 0 ≡ none → D ≤ N
-    go true e = omega (arith, counted _ N n d D (allowed .counts) .none e)
+    go true e = omega (arith, agreed-counts _ N n d D (allowed .counts) .none e)
     go false e =
         either Fits (isCredit p) (either Fits (eqb (f .credit .0) 0 || hasOption p) heard withheld) withheld
         (rw (verdictOn, creditVerdict, levelVerdict, e) at (allowed .counts))

@@ -2,6 +2,7 @@
 ghost use mathlib.Core.Path.{_≡_};
 ghost use Prim.Native.Nat.{_≤_};
 ghost use lib.Dec.{T, eqb};
+ghost use Rattle.plans.specs.Limits.{largestInterval};
 ghost use Rattle.plans.specs.Verdicts.{acceptedOf};
 ghost use Rattle.plans.specs.Continuous.{afterBlock};
 ghost use Rattle.model.specs.Stations.{validPlan};
@@ -15,7 +16,6 @@ ghost use Rattle.model.specs.Calls.{
   firstOf,
   entryRefusals,
 };
-ghost use Rattle.model.proofs.FigureBounds.{FiguresWithin};
 use crate::asking;
 use crate::plan;
 use model::Answer;
@@ -94,12 +94,19 @@ fn lot_figure(plan: Plan, figures: Figures) -> u32
     state.level
 }
 
-fn lot(plan: Plan, figures: Figures, after: Figures, size: u32, wrong: u32, all: u32) -> Answer
-    requires { ⌜ all ≤ size ⌝ }
-    ensures { λ r. ⌜ r ≡ givesThese (verdictOn plan figures wrong) (acceptedOf (verdictOn plan figures wrong) size all) (lotFigure plan after) ⌝ }
+fn lot(
+    plan: Plan,
+    figures: Figures,
+    after: Figures,
+    size: u32,
+    wrong: u32,
+    wrong_in_all: u32,
+) -> Answer
+    requires { ⌜ «wrong_in_all» ≤ size ⌝ }
+    ensures { λ r. ⌜ r ≡ givesThese (verdictOn plan figures wrong) (acceptedOf (verdictOn plan figures wrong) size «wrong_in_all») (lotFigure plan after) ⌝ }
 {
     let verdict = asking::verdict(plan, figures, wrong);
-    let accepted = verdict::accepted_of(verdict, LotSize(size), all);
+    let accepted = verdict::accepted_of(verdict, LotSize(size), wrong_in_all);
     gives(verdict, accepted, lot_figure(plan, after))
 }
 
@@ -111,7 +118,7 @@ fn run(after: Figures, right: u32) -> Answer
 }
 
 fn block(plan: Plan, figures: Figures, after: Figures, heard: u32, wrong: u32) -> Answer
-    requires { ⌜ (1 ≤ heard) × (heard ≤ plan .b) × (plan .b ≤ 200) ⌝ }
+    requires { ⌜ (1 ≤ heard) × (heard ≤ plan .b) × (plan .b ≤ largestInterval) ⌝ }
     ensures { λ r. ⌜ r ≡ givesThese (afterBlock (plan .b) heard (eqb wrong 1) (figures .continuous) .accepted) (afterBlock (plan .b) heard (eqb wrong 1) (figures .continuous) .«hear_back») (after .continuous .phase) ⌝ }
 {
     let heard_block = asking::block(plan, figures, heard, wrong);

@@ -3,6 +3,7 @@ ghost use mathlib.Core.Path.{_≡_};
 ghost use mathlib.Core.Bool.{false};
 ghost use Prim.Native.Nat.{_≤_};
 ghost use lib.Dec.{T, eqb};
+ghost use Rattle.plans.specs.Limits.{largestCredit, largestLot, largestInterval};
 ghost use Rattle.plans.specs.Continuous.{afterBlock};
 ghost use Rattle.model.specs.Stations.{validPlan, isContinuous};
 ghost use Rattle.model.specs.Figuring.{sampleAsked, verdictOn};
@@ -16,7 +17,7 @@ use plans::verdict;
 
 // The sample that a lot asks for.
 pub fn sample(plan: Plan, figures: Figures, size: u32) -> u32
-    requires { ⌜ T (validPlan plan) × (isContinuous plan ≡ false) × (figures .credit .0 ≤ 128000000) × (1 ≤ size) × (size ≤ 1000000) ⌝ }
+    requires { ⌜ T (validPlan plan) × (isContinuous plan ≡ false) × (figures .credit .0 ≤ largestCredit) × (1 ≤ size) × (size ≤ largestLot) ⌝ }
     ensures { λ r. ⌜ (r ≡ sampleAsked plan figures size) × (r ≤ size) ⌝ }
 {
     if plan.kind == plan::CREDIT {
@@ -40,7 +41,7 @@ pub fn verdict(plan: Plan, figures: Figures, wrong: u32) -> u32
 
 // What a block gives.
 pub fn block(plan: Plan, figures: Figures, heard: u32, wrong: u32) -> Block
-    requires { ⌜ (1 ≤ heard) × (heard ≤ plan .b) × (plan .b ≤ 200) ⌝ }
+    requires { ⌜ (1 ≤ heard) × (heard ≤ plan .b) × (plan .b ≤ largestInterval) ⌝ }
     ensures { λ r. ⌜ r ≡ afterBlock (plan .b) heard (eqb wrong 1) (figures .continuous) ⌝ }
 {
     let continuous = figures.continuous;

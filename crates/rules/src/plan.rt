@@ -3,13 +3,14 @@ ghost use mathlib.Core.Path.{_≡_};
 ghost use Rattle.model.specs.Stations.{validPlan, within as isWithin};
 ghost use mathlib.Core.Bool.{_&&_};
 ghost use lib.Dec.{eqb, leb};
-ghost use Rattle.model.specs.Figuring.{started as startedFigures};
-ghost use Rattle.rules.specs.Starting.{withLevel};
+ghost use Rattle.plans.specs.Limits.{largestClearance, largestInterval};
+ghost use Rattle.model.specs.Figuring.{started as startedFigures, withLevel};
 use model::Figures;
 use model::Plan;
 use plans::continuous::Continuous;
 use plans::credit::Credit;
 use plans::level::LevelState;
+use plans::limits;
 
 pub const CREDIT: u32 = 1;
 
@@ -23,10 +24,10 @@ pub fn is_valid(plan: Plan) -> bool
 {
     let kind = plan.kind;
     if kind == CREDIT {
-        return is_for_lots(plan, 500000);
+        return is_for_lots(plan, limits::LARGEST_AOQL);
     }
     if kind == LEVEL {
-        return is_for_lots(plan, 7);
+        return is_for_lots(plan, limits::VERIFICATION_LEVELS);
     }
     if kind == CONTINUOUS {
         return is_for_blocks(plan);
@@ -59,6 +60,7 @@ pub fn within(low: u32, high: u32, n: u32) -> bool
     n <= high
 }
 
+// What refusal 5 leaves of a plan for lots, whose A is at most so large.
 fn is_for_lots(plan: Plan, most: u32) -> bool
     ensures { λ r. ⌜ r ≡ isWithin 1 most (plan .a) && eqb (plan .b) 0 && leb (plan .option) 1 ⌝ }
 {
@@ -71,18 +73,20 @@ fn is_for_lots(plan: Plan, most: u32) -> bool
     plan.option <= 1
 }
 
+// What refusal 5 leaves of a continuous plan.
 fn is_for_blocks(plan: Plan) -> bool
-    ensures { λ r. ⌜ r ≡ isWithin 1 10000 (plan .a) && isWithin 2 200 (plan .b) && eqb (plan .option) 0 ⌝ }
+    ensures { λ r. ⌜ r ≡ isWithin 1 largestClearance (plan .a) && isWithin 2 largestInterval (plan .b) && eqb (plan .option) 0 ⌝ }
 {
-    if !within(1, 10000, plan.a) {
+    if !within(1, limits::LARGEST_CLEARANCE, plan.a) {
         return false;
     }
-    if !within(2, 200, plan.b) {
+    if !within(2, limits::LARGEST_INTERVAL, plan.b) {
         return false;
     }
     plan.option == 0
 }
 
+// The figures of a new stream with this level state; those foreign to its plan are zero.
 fn with_level(level: LevelState) -> Figures
     ensures { λ r. ⌜ r ≡ withLevel level ⌝ }
 {

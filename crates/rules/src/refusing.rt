@@ -1,12 +1,13 @@
 // Which refusal a call gets on an opened stream: paper 01, "Calls", each list of refusals in the paper's order.
 ghost use mathlib.Core.Path.{_≡_};
 ghost use mathlib.Core.Bool.{not, _&&_, _||_};
-ghost use Prim.Native.Nat.{ℕ, _+_, _-_, _≤_, _<_};
+ghost use Prim.Native.Nat.{_+_, _-_, _≤_, _<_};
+ghost use Rattle.plans.specs.Limits.{largestLot};
 ghost use Rattle.plans.specs.Verdicts.{lotHeard, lotWithheld};
 ghost use lib.Dec.{T, eqb};
 ghost use Rattle.model.specs.declared.Entry.the-variants.{Lot, Run, Block, Stop};
+ghost use Rattle.model.specs.Sizes.{mostRecords};
 ghost use Rattle.model.specs.Stations.{validPlan, within};
-ghost use Rattle.model.specs.Figuring.{sampleAsked};
 ghost use Rattle.model.specs.Calls.{
   firstOf,
   entryRefusals,
@@ -16,22 +17,22 @@ ghost use Rattle.model.specs.Calls.{
   sizeInRange,
   countsAgree,
 };
-ghost use Rattle.model.proofs.FigureBounds.{FiguresWithin};
+ghost use Rattle.model.specs.FigureBounds.{FiguresWithin};
 use crate::asking;
 use crate::plan;
 use model::Entry;
 use model::Figures;
 use model::Plan;
+use model::sizes::MOST_RECORDS;
 use plans::continuous;
 use plans::level;
+use plans::limits;
+use plans::stops;
 use plans::verdict;
-
-// So many records an area holds.
-pub const MOST_RECORDS: usize = 128;
 
 // The refusal of an entry.
 pub fn entry(plan: Plan, figures: Figures, count: usize, entry: Entry) -> u32
-    requires { ⌜ T (validPlan plan) × FiguresWithin count figures × (count ≤ 128) ⌝ }
+    requires { ⌜ T (validPlan plan) × FiguresWithin count figures × (count ≤ mostRecords) ⌝ }
     ensures { λ r. ⌜ r ≡ firstOf (entryRefusals plan figures count entry) ⌝ }
 {
     match entry {
@@ -66,10 +67,10 @@ pub fn lot(
     size: u32,
     sample: u32,
     wrong: u32,
-    all: u32,
+    wrong_in_all: u32,
 ) -> u32
-    requires { ⌜ T (validPlan plan) × FiguresWithin count figures × (count ≤ 128) ⌝ }
-    ensures { λ r. ⌜ r ≡ firstOf (entryRefusals plan figures count (Lot label size sample wrong all)) ⌝ }
+    requires { ⌜ T (validPlan plan) × FiguresWithin count figures × (count ≤ mostRecords) ⌝ }
+    ensures { λ r. ⌜ r ≡ firstOf (entryRefusals plan figures count (Lot label size sample wrong «wrong_in_all»)) ⌝ }
 {
     if plan.kind == plan::CONTINUOUS {
         return 7;
@@ -94,7 +95,7 @@ pub fn lot(
         size,
         sample,
         wrong,
-        all,
+        wrong_in_all,
     ) {
         return 0;
     }
@@ -112,7 +113,7 @@ pub fn run(plan: Plan, figures: Figures, count: usize, right: u32, wrong: u32) -
     if MOST_RECORDS <= count {
         return 9;
     }
-    if 10000 < right {
+    if limits::LONGEST_RUN < right {
         return 15;
     }
     if 1 < wrong {
@@ -173,10 +174,10 @@ pub fn stop(plan: Plan, figures: Figures, count: usize, why: u32, days: u32) -> 
     if 2 < why {
         return 15;
     }
-    if 255 < days {
+    if limits::LONGEST_STOP < days {
         return 15;
     }
-    if why != 2 {
+    if why != stops::SET_UP_CHANGED {
         return 0;
     }
     if 0 < days {
@@ -221,45 +222,45 @@ fn is_size_out(plan: Plan, size: u32) -> bool
     ensures { λ r. ⌜ r ≡ not (sizeInRange plan size) ⌝ }
 {
     if plan.kind == plan::LEVEL {
-        return !plan::within(2, 1000000, size);
+        return !plan::within(2, limits::LARGEST_LOT, size);
     }
-    !plan::within(1, 1000000, size)
+    !plan::within(1, limits::LARGEST_LOT, size)
 }
 
 // Whether the counts of a lot agree: what refusal 13 leaves.
-fn do_counts_agree(verdict: u32, size: u32, sample: u32, wrong: u32, all: u32) -> bool
-    requires { ⌜ (sample ≤ size) × (size ≤ 1000000) ⌝ }
-    ensures { λ r. ⌜ r ≡ countsAgree verdict size sample wrong all ⌝ }
+fn do_counts_agree(verdict: u32, size: u32, sample: u32, wrong: u32, wrong_in_all: u32) -> bool
+    requires { ⌜ (sample ≤ size) × (size ≤ largestLot) ⌝ }
+    ensures { λ r. ⌜ r ≡ countsAgree verdict size sample wrong «wrong_in_all» ⌝ }
 {
     if sample < wrong {
         return false;
     }
-    if is_none_missed(wrong, all) {
-        return is_by_verdict(verdict, size, sample, wrong, all);
+    if is_none_missed(wrong, wrong_in_all) {
+        return is_by_verdict(verdict, size, sample, wrong, wrong_in_all);
     }
     false
 }
 
 // Without a wrong one in the sample there is none in all that was heard.
-fn is_none_missed(wrong: u32, all: u32) -> bool
-    ensures { λ r. ⌜ r ≡ not (eqb wrong 0) || eqb all 0 ⌝ }
+fn is_none_missed(wrong: u32, wrong_in_all: u32) -> bool
+    ensures { λ r. ⌜ r ≡ not (eqb wrong 0) || eqb «wrong_in_all» 0 ⌝ }
 {
     if wrong == 0 {
-        return all == 0;
+        return wrong_in_all == 0;
     }
     true
 }
 
 // The range of all that was found wrong, by the verdict.
-pub fn is_by_verdict(verdict: u32, size: u32, sample: u32, wrong: u32, all: u32) -> bool
-    requires { ⌜ (wrong ≤ sample) × (sample ≤ size) × (size ≤ 1000000) ⌝ }
-    ensures { λ r. ⌜ r ≡ (not (eqb verdict lotHeard) || within wrong (size - sample + wrong) all) && (not (eqb verdict lotWithheld) || eqb all wrong) ⌝ }
+pub fn is_by_verdict(verdict: u32, size: u32, sample: u32, wrong: u32, wrong_in_all: u32) -> bool
+    requires { ⌜ (wrong ≤ sample) × (sample ≤ size) × (size ≤ largestLot) ⌝ }
+    ensures { λ r. ⌜ r ≡ (not (eqb verdict lotHeard) || within wrong (size - sample + wrong) «wrong_in_all») && (not (eqb verdict lotWithheld) || eqb «wrong_in_all» wrong) ⌝ }
 {
     if verdict == verdict::HEARD {
-        return plan::within(wrong, size - sample + wrong, all);
+        return plan::within(wrong, size - sample + wrong, wrong_in_all);
     }
     if verdict == verdict::WITHHELD {
-        return all == wrong;
+        return wrong_in_all == wrong;
     }
     true
 }

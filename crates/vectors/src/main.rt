@@ -2,12 +2,14 @@
 // written from the documents: document 004 (ISO 28593), the example of clause 10, Tables A.1 and A.2; document 000 (ISO 28594),
 // Table D.1.
 ghost use Prim.Native.Nat.{_+_, _≤_, _<_};
-ghost use Rattle.plans.proofs.Bounds.{LevelWithin};
+ghost use Rattle.plans.specs.Limits.{largestLot, largestAoql};
+ghost use Rattle.plans.specs.LevelBounds.{LevelWithin};
 use libc::STDOUT_FILENO;
 use plans::LotSize;
 use plans::credit::Credit;
 use plans::level;
 use plans::level::LevelState;
+use plans::limits;
 use plans::tables;
 
 fn main() {
@@ -48,7 +50,7 @@ fn main() {
 
 // Prints a credit lot with the sample that it asks for, and hands back the credit after it.
 fn credit_lot(lot: u32, size: u32, credit: Credit, limit: u32, wrong: u32) -> Credit
-    requires { ⌜ (credit .0 ≤ 1000000) × (1 ≤ size) × (size ≤ 1000000) × (limit ≤ 500000) ⌝ }
+    requires { ⌜ (credit .0 ≤ largestLot) × (1 ≤ size) × (size ≤ largestLot) × (limit ≤ largestAoql) ⌝ }
     ensures { λ r. ⌜ r .0 ≤ credit .0 + size ⌝ }
 {
     let sample = credit.sample(LotSize(size), limit);
@@ -73,10 +75,10 @@ fn constant_lots(size: u32)
 
 // A row of Table A.1: the sample that the largest lot asks for with no credit, and the largest lot that asks for a smaller one.
 fn largest_sample(limit: u32)
-    requires { ⌜ limit ≤ 500000 ⌝ }
+    requires { ⌜ limit ≤ largestAoql ⌝ }
 {
-    let largest = Credit(0).sample(LotSize(1000000), limit).0;
-    let mut size: u32 = 1000000;
+    let largest = Credit(0).sample(LotSize(limits::LARGEST_LOT), limit).0;
+    let mut size: u32 = limits::LARGEST_LOT;
     while 1 < size {
         if Credit(0).sample(LotSize(size - 1), limit).0 < largest {
             break;

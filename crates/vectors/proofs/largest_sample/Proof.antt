@@ -1,10 +1,11 @@
 use native.Mathlib.Omega.{arith}
 use Prim.Native.Nat.{_≤_}
+use Rattle.plans.specs.Limits.{largestLot}
 use Rattle.vectors.proofs.largest_sample.Statement.{statement}
 use Rattle.vectors.proofs.largest_sample.Tie as tie
 
 abbrev Inv-loop : tie.InvT-loop
-Inv-loop limit largest size₀ size = (1 ≤ size) × (size ≤ 1000000)
+Inv-loop limit largest size₀ size = (1 ≤ size) × (size ≤ largestLot)
 
 abbrev μ-loop : tie.MeasureT-loop
 μ-loop limit largest size₀ size = size

@@ -1,4 +1,4 @@
-use Rattle.plans.proofs.Bounds.{judged-lot-within}
+use Rattle.plans.proofs.LevelBounds.{judged-lot-within}
 use borrow.Author.Needs.{needs}
 use Rattle.vectors.proofs.level_lot.Statement.{statement}
 use Rattle.vectors.proofs.level_lot.Tie as tie

@@ -1,7 +1,8 @@
 use Prim.Native.Nat.{_≤_, _-_}
 use mathlib.Core.Path.{_≡_}
 use lib.ListN.{length}
-use Rattle.plans.proofs.Bounds.{LevelWithin, start-within}
+use Rattle.plans.specs.LevelBounds.{LevelWithin}
+use Rattle.plans.proofs.LevelBounds.{start-within}
 use borrow.Author.Needs.{needs}
 use Rattle.vectors.proofs.wing_nuts.Statement.{statement}
 use Rattle.vectors.proofs.wing_nuts.Tie as tie

@@ -1,7 +1,6 @@
 use Rattle.model.specs.Stations.{isCredit}
 use Rattle.model.specs.Calls.{lotFigure}
 use borrow.Author.Tests.{eq-eqb, ne-eqb}
-use borrow.Author.Needs.{needs}
 use Rattle.rules.proofs.answering.lot_figure.Statement.{statement}
 use Rattle.rules.proofs.answering.lot_figure.Tie as tie
 

@@ -1,4 +1,3 @@
-use Rattle.rules.specs.Starting.{withLevel}
 use Rattle.model.specs.Figuring.{noLevel, started}
 use Rattle.model.specs.Stations.{isLevel}
 use borrow.Author.Tests.{eq-eqb, ne-eqb}
@@ -13,14 +12,14 @@ with-level-requires : tie.Need-with-level-requires
 with-level-requires c κs = search needs
 
 returns : tie.Need-returns
-unfolding isLevel noLevel started withLevel
+unfolding isLevel noLevel started
 returns c = simp (eq-eqb _ _ (c .before .before .if1 .taken), ← c .before .start .ensures) (c .with-level .ensures)
 
 with-level-requires-2 : tie.Need-with-level-requires-2
 with-level-requires-2 c κs = search needs
 
 returns-2 : tie.Need-returns-2
-unfolding isLevel noLevel started withLevel
+unfolding isLevel noLevel started
 returns-2 c = simp (ne-eqb _ _ (c .before .if1 .left)) (c .with-level2 .ensures)
 
 pub started-spec : {M : Type 1} → statement M

@@ -1,4 +1,3 @@
-use Rattle.rules.specs.Starting.{withLevel}
 use borrow.Author.Needs.{needs}
 use Rattle.rules.proofs.plan.with_level.Statement.{statement}
 use Rattle.rules.proofs.plan.with_level.Tie as tie
@@ -7,7 +6,6 @@ screen-requires : tie.Need-screen-requires
 screen-requires c κs = search needs
 
 returns : tie.Need-returns
-unfolding withLevel
 returns c = simp (c .screen .ensures)
 
 pub with-level-spec : {M : Type 1} → statement M

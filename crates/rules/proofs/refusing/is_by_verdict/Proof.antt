@@ -17,7 +17,7 @@ returns : tie.Need-returns
 returns c = simp (c .before .if1 .taken, ← c .within .ensures, and-true)
 
 returns-2 : tie.Need-returns-2
-returns-2 c = simp (ne-eqb _ _ (c .before .if1 .left), c .if2 .taken)
+returns-2 c = simp (c .if2 .taken)
 
 returns-3 : tie.Need-returns-3
 returns-3 c = simp (ne-eqb _ _ (c .before .if1 .left), ne-eqb _ _ (c .if2 .left))

@@ -1,6 +1,6 @@
 -- How far a lot or a stop can take a level stream's state: what keeps the state in its bytes. Assumes nothing.
-use Prim.Native.Nat.{ℕ, _+_, _%_, _≤_, _<_}
-use mathlib.Core.Bool.{Bool, true, false, cond, _&&_, _||_}
+use Prim.Native.Nat.{ℕ, _+_, _%_, _≤_}
+use mathlib.Core.Bool.{Bool, cond, _&&_, _||_}
 use native.Mathlib.Omega.{arith}
 use lib.Dec.{eqb, leb}
 use Rattle.plans.specs.Levels.{
@@ -19,21 +19,11 @@ use Rattle.plans.specs.Levels.{
   metStop,
   withheldIn,
 }
+use Rattle.plans.specs.LevelBounds.{LevelWithin}
 use Rattle.plans.specs.Severities.{reduced, normal, tightened}
 use Rattle.plans.specs.Stops.{setUpChanged, longStop}
 use Rattle.plans.specs.declared.level.LevelState.{LevelState}
-
--- what holds on either side of a test holds of what it picks
-pub either : {A : Type 0} (P : A → Type 0) (b : Bool) {x y : A} → P x → P y → P (cond b x y)
-either P true p q = p
-either P false p q = q
-
--- the state fits its bytes, and at most n lots have made it
-pub record LevelWithin (n : ℕ) (s : LevelState) : Type 0 where
-  pub levels : s .level ≤ 3
-  pub rows : s .row ≤ n
-  pub judgedLots : s .judged ≤ n
-  pub windows : s .window < 32
+use Rattle.plans.proofs.Booleans.{either}
 
 arrived-within : (n level : ℕ) (s : LevelState) → level ≤ 3 → LevelWithin n s → LevelWithin n (arrived level s)
 unfolding arrived

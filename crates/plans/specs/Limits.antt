@@ -1,0 +1,35 @@
+-- The ranges that paper 01, "Calls", sets to plans and entries, each under the refusal that keeps to it. A contract that has a
+-- `requires` asks for no more than these. Assumes nothing.
+use Prim.Native.Nat.{ℕ, _*_}
+
+-- 5: the AOQL A of a credit plan, in millionths
+abbrev pub largestAoql : ℕ
+largestAoql = 500000
+
+-- 5: the level A of a level plan, VL-1 to VL-7
+abbrev pub verificationLevels : ℕ
+verificationLevels = 7
+
+-- 5: the clearance number A of a continuous plan
+abbrev pub largestClearance : ℕ
+largestClearance = 10000
+
+-- 5: its interval B, of which one detection is heard
+abbrev pub largestInterval : ℕ
+largestInterval = 200
+
+-- 11: a lot's size N
+abbrev pub largestLot : ℕ
+largestLot = 1000000
+
+-- 9: no more credit is had than 128 standing lots give
+abbrev pub largestCredit : ℕ
+largestCredit = 128 * largestLot
+
+-- 15: the right detections h of a run
+abbrev pub longestRun : ℕ
+longestRun = 10000
+
+-- 15: the days of a stop
+abbrev pub longestStop : ℕ
+longestStop = 255
