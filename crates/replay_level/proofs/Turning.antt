@@ -9,36 +9,35 @@ use lib.ListN.{length}
 use Rattle.little.specs.Little.{AreBytes}
 use Rattle.model.specs.declared.Plan.{Plan}
 use Rattle.model.specs.Sizes.{areaLength}
-use Rattle.model.specs.Stations.{validPlan}
+use Rattle.model.specs.Stations.{isCredit, isContinuous, validPlan}
 use Rattle.model.specs.Area.{entriesIn}
 use Rattle.model.proofs.Allowed.{level-plan}
+use Rattle.model.proofs.Backward.{credit-backward}
 use Rattle.model.proofs.FigureBounds.{FiguresWithin}
 use Rattle.records.specs.Records.{recordIn, recordAt}
 use Rattle.replaying.specs.Replaying.{entered, soundAt, unsoundAt, recordsIn, figuresTo, standTo, Replayed}
 use Rattle.replaying.proofs.Heads.{kind-byte, flag-byte, label-word}
-use Rattle.replaying.proofs.Parts.{stand-admissible, figures-to-within}
+use Rattle.replaying.specs.LotStreams.{lotFigures}
+use Rattle.replaying.proofs.Parts.{figures-to-within}
+use Rattle.replaying.proofs.LotStreams.{numbers-kept}
 use Rattle.replaying.proofs.Turns.{turn-taken, turn-failed}
 use Rattle.replay_level.specs.declared.Carried.{Carried}
 use Rattle.replay_level.specs.declared.Step.the-variants.{Stands, Fails}
 use Rattle.replay_level.specs.Carrying.{figuresIn, carriedFrom, Bounded, stepOf}
-use Rattle.replay_level.proofs.Foreign.{not-credit, not-continuous, LevelOnly, entries-only, carried-same}
 use Rattle.replay_level.proofs.Steps.{enteredAs, step-entered}
 
 module _ (p : Plan) (kind : p .kind ≡ 2) (valid : T (validPlan p)) (area : List ℕ) (whole : length area ≡ areaLength) (bytes : AreBytes area) where
-  level-only : (i : ℕ) → i ≤ 128 → standTo p area i ≡ true → LevelOnly (figuresTo p area i)
-  unfolding figuresTo
-  level-only i room stood = entries-only p kind (entriesIn p (recordsIn area) i) (stand-admissible p area i whole bytes room stood)
-
   -- the six numbers taken from the figures stand for them
   pub figures-kept : (i : ℕ) → i ≤ 128 → standTo p area i ≡ true → figuresIn (carriedFrom (figuresTo p area i)) ≡ figuresTo p area i
+  unfolding figuresIn carriedFrom figuresTo isCredit isContinuous
   figures-kept i room stood =
-      carried-same (figuresTo p area i) (level-only i room stood) (figures-to-within p area i whole bytes room stood valid .labels)
+      numbers-kept p (rw kind) valid area whole bytes i room stood 0 _ (credit-backward p (entriesIn p (recordsIn area) i) ∙ rw kind) refl
 
   module _ (s : Carried) (i : ℕ) (room : i < 128) (stood : standTo p area i ≡ true) (same : figuresIn s ≡ figuresTo p area i) where
     pub bounded : Bounded p s
-    unfolding figuresIn
+    unfolding figuresIn lotFigures isCredit isContinuous
     bounded =
-        let stated = level-plan p valid (not-credit p kind) (not-continuous p kind) in
+        let stated = level-plan p valid (rw kind) (rw kind) in
         let fits : FiguresWithin i (figuresIn s) = rw same (figures-to-within p area i whole bytes (omega arith) stood valid) in
         record {
           rows = omega (arith, fits .levels .rows);
@@ -51,7 +50,7 @@ module _ (p : Plan) (kind : p .kind ≡ 2) (valid : T (validPlan p)) (area : Lis
     entered-step : enteredAs (figuresIn s) (stepOf p s (recordIn (recordAt area i))) ≡ entered p (figuresIn s) i (recordIn (recordAt area i))
     entered-step =
         sym (
-        step-entered p kind s i room (recordIn (recordAt area i)) (kind-byte area i whole bytes room) (flag-byte area i whole bytes room)
+        step-entered p kind s (recordIn (recordAt area i)) i room (kind-byte area i whole bytes room) (flag-byte area i whole bytes room)
         (label-word area i whole bytes room)
         )
 

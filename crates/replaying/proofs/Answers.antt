@@ -13,12 +13,12 @@ use Rattle.model.specs.Calls.{firstOf, entryRefusals}
 use Rattle.model.proofs.Booleans.{both-true, not-false-of}
 use Rattle.records.specs.declared.Record.{Record}
 use Rattle.rules.specs.Replayed.{accepts}
-use Rattle.replaying.specs.Replaying.{entryOf, wellFormed, stands, entered, soundAt, unsoundAt, NoMore}
+use Rattle.replaying.specs.Replaying.{entryOf, wellFormed, stands, enteredIf, entered, soundAt, NoMore}
 
 module _ (p : Plan) (f : Figures) (i : ℕ) (r : Record) where
   -- a well-formed record of an entry stands where the entry is accepted
   pub formed : (e : Entry) → wellFormed r ≡ true → entryOf p f r ≡ e
-      → entered p f i r ≡ record { sound = accepts p f i e; figures = cond (accepts p f i e) (stepped p e f) f }
+      → entered p f i r ≡ enteredIf (accepts p f i e) (stepped p e f) f
   unfolding entered stands
   formed e w same = simp (w, same)
 

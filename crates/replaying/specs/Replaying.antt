@@ -57,9 +57,13 @@ pub record NoMore (r : Record) : Type 0 where
 unfoldable pub stands : Plan → Figures → ℕ → Record → Bool
 stands p f i r = wellFormed r && accepts p f i (entryOf p f r)
 
+-- where the test holds the figures are those after, and else those before
+abbrev pub enteredIf : Bool → Figures → Figures → Entered
+enteredIf test after before = record { sound = test; figures = cond test after before }
+
 -- what entering a record gives: whether it stands, and the figures after it
 unfoldable pub entered : Plan → Figures → ℕ → Record → Entered
-entered p f i r = record { sound = stands p f i r; figures = cond (stands p f i r) (stepped p (entryOf p f r) f) f }
+entered p f i r = enteredIf (stands p f i r) (stepped p (entryOf p f r) f) f
 
 -- a record that stands brings other figures; one that cannot leaves them
 unfoldable pub soundAt : Figures → Entered
