@@ -4,7 +4,6 @@ use mathlib.Core.Path.{_≡_, refl, sym, ap, _∙_}
 use mathlib.Core.Bool.{Bool, true, false}
 use mathlib.Core.List.{List, _++_}
 use native.Mathlib.Omega.{arith}
-use lib.Dec.{T}
 use lib.ListN.{length, getD, drop}
 use Rattle.little.specs.Little.{part, AreBytes}
 use Rattle.model.specs.declared.Plan.{Plan}
@@ -12,7 +11,6 @@ use Rattle.model.specs.declared.Entry.{Entry}
 use Rattle.model.specs.declared.Figures.{Figures}
 use Rattle.model.specs.Sizes.{areaLength, headerLength, recordLength}
 use Rattle.model.specs.Stations.{unopened, opened, validPlan}
-use Rattle.model.specs.Figuring.{figuresOf}
 use Rattle.model.specs.Calls.{admissibleStation}
 use Rattle.model.specs.Area.{zeros, figureBytes, areaOf, planIn, countIn, entriesIn, Reading, unsound, holds, reading}
 use Rattle.model.proofs.AreaReading.{reading-of-area}
