@@ -53,7 +53,7 @@ use Rattle.replaying.specs.LotStreams.{noLabel, newestOf, lotFigures, ma
 use Rattle.replaying.proofs.Heads.{head-is}
 use Rattle.replaying.proofs.Parts.{stand-admissible, figures-to-within}
 use Rattle.replaying.proofs.Answers.{formed, lot-formed, lot-of, stop-of}
-use Rattle.replaying.proofs.Stops.{stop-kind, stop-stands}
+use Rattle.replaying.proofs.Stops.{stop-form, stop-stands}
 
 -- ---- the newest lot's label in one number
 
@@ -144,14 +144,14 @@ module _ (p : Plan) (f : Figures) (i : ℕ) (r : Record) (lots : isContinuous p 
       → entered p f i r ≡ enteredIf fits after f
   lot-entered flags head fits test step =
       let form = head-is r 1 0 kinds flags (omega arith) (omega arith) head in
-      formed p f i r _ (lot-formed p f i r (form .0) (form .2) (form .1)) (lot-of p f i r (form .0)) ∙ rw (lot-accepts, test, step)
+      formed p f i r _ (lot-formed r (form .0) (form .2) (form .1)) (lot-of p f r (form .0)) ∙ rw (lot-accepts, test, step)
 
   pub stop-entered : (headOf r ≡ 1 → ⊥) → stepped p (Stop (r .flag) (r .a)) f ≡ after → entered p f i r ≡ enteredIf (isStop r) after f
   unfolding entered
   stop-entered other step = rw (stop-stands p f i r lots running room kinds other) (go (isStop r) refl)
     where
       go : (b : Bool) → isStop r ≡ b → _≡_ {A = Entered} (enteredIf b (stepped p (entryOf p f r) f) f) (enteredIf b after f)
-      go true e = rw (stop-of p f i r (stop-kind r kinds e), step)
+      go true e = rw (stop-of p f r (stop-form r kinds e .0), step)
       go false e = refl
 
 -- ---- what the tests of a lot's record say
