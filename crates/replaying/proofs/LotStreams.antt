@@ -5,8 +5,7 @@ use mathlib.Core.Bool.{Bool, true, false, cond, not, _&&_}
 use mathlib.Core.List.{List, [], _∷_}
 use native.Mathlib.Nat.{add-zero, mod-eq-of-lt}
 use native.Mathlib.Omega.{arith}
-use lib.Dec.{T, eqb, ltb}
-use lib.ListN.{length}
+use lib.Dec.{eqb, ltb}
 use borrow.Author.Tests.{eqb-true, eq-eqb, ne-eqb, lt-leb, lt-ltb, ltb-true, ltb-false}
 use Rattle.little.specs.Little.{AreBytes}
 use Rattle.plans.specs.Continuous.{screening}
@@ -16,8 +15,7 @@ use Rattle.model.specs.declared.Plan.{Plan}
 use Rattle.model.specs.declared.Entry.{Entry}
 use Rattle.model.specs.declared.Entry.the-variants.{Lot, Run, Block, Stop}
 use Rattle.model.specs.declared.Figures.{Figures}
-use Rattle.model.specs.Sizes.{areaLength}
-use Rattle.model.specs.Stations.{isContinuous, validPlan, within}
+use Rattle.model.specs.Stations.{isContinuous, within}
 use Rattle.model.specs.Figuring.{
   started,
   sampleAsked,
@@ -47,13 +45,13 @@ use Rattle.replaying.specs.Replaying.{
   entered,
   recordsIn,
   figuresTo,
-  standTo,
+  Ready,
 }
 use Rattle.replaying.specs.LotStreams.{noLabel, newestOf, lotFigures, mayFollow}
 use Rattle.replaying.proofs.Heads.{head-is}
-use Rattle.replaying.proofs.Parts.{stand-admissible, figures-to-within}
 use Rattle.replaying.proofs.Answers.{formed, lot-formed, lot-of, stop-of}
 use Rattle.replaying.proofs.Stops.{stop-form, stop-stands}
+use Rattle.replaying.proofs.Turns.{ready-admissible, ready-within}
 
 -- ---- the newest lot's label in one number
 
@@ -82,16 +80,14 @@ unfolding lotFigures newestOf
 numbers-of f K L credit level state word none =
     rw (is-labelled (f .labelled) (f .label) word, label-is (f .labelled) (f .label) word none, ← credit, ← level, ← state)
 
-module _ (p : Plan) (lots : isContinuous p ≡ false) (valid : T (validPlan p)) (area : List ℕ) (whole : length area ≡ areaLength)
-    (bytes : AreBytes area) (i : ℕ) (room : i ≤ 128) (stood : standTo p area i ≡ true) where
-  pub numbers-kept : (K : ℕ) (L : LevelState) → figuresTo p area i .credit .0 ≡ K → figuresTo p area i .level ≡ L
-      → lotFigures K L (figuresTo p area i .accepted) (newestOf (figuresTo p area i)) ≡ figuresTo p area i
-  unfolding figuresTo
-  numbers-kept K L credit level =
-      numbers-of (figuresTo p area i) K L credit level
-      (continuous-foreign p (entriesIn p (recordsIn area) i) (stand-admissible p area i whole bytes room stood) lots)
-      (figures-to-within p area i whole bytes room stood valid .labels)
-      (unlabelled p (entriesIn p (recordsIn area) i))
+pub numbers-kept : (p : Plan) (area : List ℕ) (f : Figures) (i to : ℕ) → isContinuous p ≡ false → AreBytes area → Ready p area f i to
+    → (K : ℕ) (L : LevelState) → f .credit .0 ≡ K → f .level ≡ L → lotFigures K L (f .accepted) (newestOf f) ≡ f
+unfolding figuresTo
+numbers-kept p area f i to lots bytes ready K L credit level =
+    numbers-of f K L credit level
+    (rw (ready .brought) (continuous-foreign p (entriesIn p (recordsIn area) i) (ready-admissible p area f i to ready bytes) lots))
+    (ready-within p area f i to ready bytes .labels)
+    (rw (ready .brought) (unlabelled p (entriesIn p (recordsIn area) i)))
 
 module _ (K : ℕ) (L : LevelState) (A newest : ℕ) where
   -- a label is the newest lot's where it is the carried number
