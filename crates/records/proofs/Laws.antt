@@ -10,14 +10,14 @@ use lib.Dec.{lit<, lit≤}
 use lib.ListN.{length, drop, getD, set, length-take, length-drop}
 use lib.Seq.{getD-take, getD-drop, drop-cons, drop-drop, take-add, ext-getD}
 use Rattle.little.specs.Little.{bytes, value, part, written, AreBytes}
-use Rattle.little.proofs.Laws.{value-bytes, bytes-value, length-part, length-written, set-written, written-next}
+use Rattle.little.proofs.Laws.{value-bytes, value-range, bytes-value, length-part, length-written, set-written, written-next}
 use Rattle.model.specs.Sizes.{recordLength, headerLength, mostRecords}
 use Rattle.model.proofs.Booleans.{never-both}
 use Rattle.records.specs.Records.{recordIn, recordAt, Decides}
 
 -- ---- parts
 
-pub getD-part : (at k : ℕ) (s : List ℕ) (i : ℕ) → i < k → getD (part at k s) i 0 ≡ getD s (at + i) 0
+getD-part : (at k : ℕ) (s : List ℕ) (i : ℕ) → i < k → getD (part at k s) i 0 ≡ getD s (at + i) 0
 unfolding part
 getD-part at k s i h = rw (getD-take k (drop at s) i 0 h, getD-drop at s i 0)
 
@@ -47,6 +47,10 @@ part-bytes zero (suc k) (x ∷ s) h zero = h 0
 part-bytes zero (suc k) (x ∷ s) h (suc i) = part-bytes zero k s (λ j. h (suc j)) i
 part-bytes (suc at) (suc k) [] h i = lit< tt
 part-bytes (suc at) (suc k) (x ∷ s) h i = part-bytes at (suc k) s (λ j. h (suc j)) i
+
+-- the number in a part of k bytes
+pub value-within : (at k : ℕ) (s : List ℕ) → AreBytes s → at + k ≤ length s → value (part at k s) < 256 ^ k
+value-within at k s h fits = rw (length-part at k s fits) at (value-range (part at k s) (part-bytes at k s h))
 
 -- bytes that hold a number are the number's bytes
 pub part-of-value : (at k n : ℕ) (s : List ℕ) → AreBytes s → at + k ≤ length s → value (part at k s) ≡ n → part at k s ≡ bytes k n

@@ -23,7 +23,7 @@ use Rattle.replay.specs.Standing.{nothingStands, standingOf, Headed, Hea
 use Rattle.replaying.proofs.Parts.{length-entries, stand-fails, parts-sound, SoundParts, sound-parts, zero-parts}
 
 -- the entries of fewer records are the older ones
-pub entries-older : (p : Plan) (records : List ℕ) (count newest : ℕ)
+entries-older : (p : Plan) (records : List ℕ) (count newest : ℕ)
     → entriesIn p records (count - newest) ≡ drop newest (entriesIn p records count)
 unfolding entriesIn
 entries-older p records count zero = let all : count - 0 ≡ count = omega arith in rw all

@@ -16,6 +16,7 @@ use Rattle.rules.specs.Replayed.{accepts}
 use Rattle.records.specs.declared.Record.{Record}
 use Rattle.replaying.specs.Replaying.{entryOf, oneNumber, NoMore, wellFormed, isStop, stands, entered, unsoundAt}
 use Rattle.replaying.proofs.Answers.{lot-of, run-of, block-of, stop-of, accepted-zero, no-more}
+use Rattle.replaying.proofs.Heads.{both-zero}
 use Rattle.replaying.proofs.Stops.{stop-accepts}
 
 -- what is accepted of a run and of a block
@@ -50,18 +51,10 @@ module _ (p : Plan) (f : Figures) (i : ℕ) where
 module _ (r : Record) where
   -- two numbers compared as one
   pub has-more : (r .b + r .c * 4294967296 ≡ 0 → ⊥) → true ≡ not (oneNumber r)
-  has-more some = go (eqb (r .b) 0) (eqb (r .c) 0) refl refl
-    where
-      go : (x y : Bool) → eqb (r .b) 0 ≡ x → eqb (r .c) 0 ≡ y → true ≡ not (oneNumber r)
-      go false y e k = rw e
-      go true false e k = rw (e, k)
-      go true true e k = absurd (some (rw (eqb-true (r .b) 0 e, eqb-true (r .c) 0 k)))
+  has-more some = rw (← both-zero (r .b) (r .c), ne-eqb (r .b + r .c * 4294967296) 0 some)
 
   pub last-number : r .b + r .c * 4294967296 ≡ 0 → not (eqb (r .d) 0) ≡ not (oneNumber r)
-  last-number none =
-      let second : r .b ≡ 0 = omega arith in
-      let third : r .c ≡ 0 = omega arith in
-      rw (eq-eqb (r .b) 0 second, eq-eqb (r .c) 0 third)
+  last-number none = rw (← both-zero (r .b) (r .c), eq-eqb (r .b + r .c * 4294967296) 0 none)
 
   pub some-more : (more : Bool) → more ≡ not (oneNumber r) → more ≡ true → NoMore r → ⊥
   some-more more e some m =

@@ -9,7 +9,6 @@ use lib.ListN.{length, getD}
 use lib.Seq.{take-all}
 use borrow.Author.Tests.{eqb-true}
 use Rattle.little.specs.Little.{bytes, value, part, AreBytes}
-use Rattle.little.proofs.Laws.{value-range, length-part}
 use Rattle.plans.proofs.Bounds.{either}
 use Rattle.rules.proofs.Counts.{sample-at-most}
 use Rattle.model.specs.declared.Plan.{Plan}
@@ -24,21 +23,17 @@ use Rattle.model.proofs.Booleans.{both-true, no-words, word-and}
 use Rattle.model.proofs.AreaReading.{entry-read}
 use Rattle.records.specs.declared.Record.{Record}
 use Rattle.records.specs.Records.{recordIn}
-use Rattle.records.proofs.Laws.{part-bytes, part-of-value, part-of-byte, part-join}
+use Rattle.records.proofs.Laws.{value-within, part-of-value, part-of-byte, part-join}
 use Rattle.replaying.specs.Replaying.{entryOf, oneNumber, NoMore, wellFormed}
 use Rattle.replaying.proofs.Answers.{no-more}
 
 -- the entry in a record's bytes is the one of its numbers
-pub entry-in : (p : Plan) (f : Figures) (r : List ℕ) → entryIn p f r ≡ entryOf p f (recordIn r)
+entry-in : (p : Plan) (f : Figures) (r : List ℕ) → entryIn p f r ≡ entryOf p f (recordIn r)
 unfolding entryIn entryOf recordIn
 entry-in p f r = refl
 
--- the number in a part of k bytes
-pub value-within : (at k : ℕ) (s : List ℕ) → AreBytes s → at + k ≤ length s → value (part at k s) < 256 ^ k
-value-within at k s h fits = rw (length-part at k s fits) at (value-range (part at k s) (part-bytes at k s h))
-
 -- a whole list as a part
-pub part-all : (k : ℕ) (s : List ℕ) → length s ≡ k → part 0 k s ≡ s
+part-all : (k : ℕ) (s : List ℕ) → length s ≡ k → part 0 k s ≡ s
 unfolding part
 part-all k s l = take-all k s (omega arith)
 

@@ -1,7 +1,6 @@
 use mathlib.Core.Path.{sym, _∙_}
 use native.Mathlib.Omega.{arith}
 use borrow.Author.Tests.{not-true, not-false}
-use Rattle.little.specs.Little.{AreBytes}
 use Rattle.replaying.proofs.Turns.{stand-none, figures-none}
 use Rattle.replay.proofs.Readings.{says-failed, says-other, says-more, says-opened}
 use borrow.Author.Needs.{needs}
@@ -16,7 +15,6 @@ started-requires c κs = search needs
 
 replay-requires : tie.Need-replay-requires
 replay-requires c κs =
-    let start = c .before .before .before .args in
     let header = c .before .before .before .pre in
     record {
       whole = header .whole;
@@ -32,12 +30,11 @@ nothing-requires c κs = search needs
 
 returns : tie.Need-returns
 returns c =
-    let start = c .before .before .before .before .before .before .before .args in
-    let header = c .before .before .before .before .before .before .before .pre in
+    let replayed = c .before .before .before in
+    let counted = replayed .before .before in
     c .nothing .ensures
-    ∙ says-failed (start .newest) (start .area .now) (start .plan) (start .count) header (c .before .before .before .replay .result) _
-    (omega (arith, c .before .before .before .before .before .without .ensures)) (c .before .before .before .replay .ensures)
-    (not-true (c .before .before .before .replay .result .sound) (c .before .if1 .taken))
+    ∙ says-failed _ _ _ _ (counted .before .before .pre) _ _ (omega (arith, counted .without .ensures)) (replayed .replay .ensures)
+    (not-true (replayed .replay .result .sound) (c .before .if1 .taken))
 
 fits-header-requires : tie.Need-fits-header-requires
 fits-header-requires c κs =
@@ -58,11 +55,9 @@ nothing-requires-2 c κs = search needs
 
 returns-2 : tie.Need-returns-2
 returns-2 c =
-    let start = c .before .before .before .before .before .before .before .before .before .before .args in
+    let header = c .before .before .before .before .before .before .before .before .before .before .pre in
     let test = c .before .before .fits-header in
-    c .nothing2 .ensures
-    ∙ says-other (start .newest) (start .area .now) (start .plan) (start .count) (c .before .before .before .before .before .before .before .before .before .before .pre) (test .result) (test .ensures)
-    (not-true (test .result) (c .before .if2 .taken))
+    c .nothing2 .ensures ∙ says-other _ _ _ _ header _ (test .ensures) (not-true (test .result) (c .before .if2 .taken))
 
 mul-is-zero-from : tie.Need-mul-is-zero-from
 mul-is-zero-from c = search needs
@@ -78,22 +73,19 @@ nothing-requires-3 c κs = search needs
 
 returns-3 : tie.Need-returns-3
 returns-3 c =
-    let start = c .before .before .before .before .before .before .before .before .before .before .before .before .args in
+    let header = c .before .before .before .before .before .before .before .before .before .before .before .before .pre in
     let test = c .before .before .is-zero-from in
-    c .nothing3 .ensures
-    ∙ says-more (start .newest) (start .area .now) (start .plan) (start .count) (c .before .before .before .before .before .before .before .before .before .before .before .before .pre) (test .result) (test .ensures)
-    (not-true (test .result) (c .before .if3 .taken))
+    c .nothing3 .ensures ∙ says-more _ _ _ _ header _ (test .ensures) (not-true (test .result) (c .before .if3 .taken))
 
 returns-4 : tie.Need-returns-4
 returns-4 c =
-    let start = c .before .before .before .before .before .before .before .before .before .before .before .args in
-    let older = c .before .before .before .before .before .before .before .replay in
-    let first = c .before .before .before .before .before .before .before .before .before .without .ensures in
+    let replayed = c .before .before .before .before .before .before .before in
+    let older = replayed .replay in
+    let counted = replayed .before .before in
     let fits = c .before .before .before .fits-header in
     let clear = c .before .is-zero-from in
-    let bytes : AreBytes (start .area .now) = λ k. c .before .before .before .before .before .before .before .before .before .before .shared-slice-known .given k .fits in
-    says-opened (start .newest) (start .area .now) (start .plan) (start .count) (c .before .before .before .before .before .before .before .before .before .before .before .pre) (older .result .figures) bytes
-    (rw first at (older .ensures .figuresAfter (not-false (older .result .sound) (c .before .before .before .before .before .if1 .left))))
+    says-opened _ _ _ _ (counted .before .before .pre) _ (λ k. counted .before .shared-slice-known .given k .fits)
+    (rw (counted .without .ensures) at (older .ensures .figuresAfter (not-false (older .result .sound) (c .before .before .before .before .before .if1 .left))))
     (fits .ensures .shows (not-false (fits .result) (c .before .before .if2 .left)))
     (clear .ensures .shows (not-false (clear .result) (c .if3 .left)))
 
