@@ -10,13 +10,14 @@ use lib.Dec.{lit<, lit≤}
 use lib.ListN.{length, drop, getD, set, length-take, length-drop}
 use lib.Seq.{getD-take, getD-drop, drop-cons, drop-drop, take-add, ext-getD}
 use Rattle.little.specs.Little.{bytes, value, part, written, AreBytes}
-use Rattle.little.proofs.Laws.{value-bytes, bytes-value, length-part, length-written, set-written, written-next}
+use Rattle.little.proofs.Laws.{value-bytes, value-range, bytes-value, length-part, length-written, set-written, written-next}
 use Rattle.model.specs.Sizes.{recordLength, headerLength, mostRecords}
+use Rattle.model.proofs.Booleans.{never-both}
 use Rattle.records.specs.Records.{recordIn, recordAt, Decides}
 
 -- ---- parts
 
-pub getD-part : (at k : ℕ) (s : List ℕ) (i : ℕ) → i < k → getD (part at k s) i 0 ≡ getD s (at + i) 0
+getD-part : (at k : ℕ) (s : List ℕ) (i : ℕ) → i < k → getD (part at k s) i 0 ≡ getD s (at + i) 0
 unfolding part
 getD-part at k s i h = rw (getD-take k (drop at s) i 0 h, getD-drop at s i 0)
 
@@ -46,6 +47,10 @@ part-bytes zero (suc k) (x ∷ s) h zero = h 0
 part-bytes zero (suc k) (x ∷ s) h (suc i) = part-bytes zero k s (λ j. h (suc j)) i
 part-bytes (suc at) (suc k) [] h i = lit< tt
 part-bytes (suc at) (suc k) (x ∷ s) h i = part-bytes at (suc k) s (λ j. h (suc j)) i
+
+-- the number in a part of k bytes
+pub value-within : (at k : ℕ) (s : List ℕ) → AreBytes s → at + k ≤ length s → value (part at k s) < 256 ^ k
+value-within at k s h fits = rw (length-part at k s fits) at (value-range (part at k s) (part-bytes at k s h))
 
 -- bytes that hold a number are the number's bytes
 pub part-of-value : (at k n : ℕ) (s : List ℕ) → AreBytes s → at + k ≤ length s → value (part at k s) ≡ n → part at k s ≡ bytes k n
@@ -111,20 +116,17 @@ then-set at {next} a x s {t} p e h =
 
 -- ---- tests
 
-never : {b : Bool} → b ≡ true → b ≡ false → ⊥
-never t f = let z : _≡_ {A = ℕ} 0 1 = cc in omega arith
-
 -- an answer that is yes, of what holds
 pub proven : {P : Type 0} → P → Decides true P
 proven p = record { shows = λ e. p; shown = λ q. refl }
 
 -- an answer that is no, of what does not hold
 pub refuted : {P : Type 0} → (P → ⊥) → Decides false P
-refuted nay = record { shows = λ e. absurd (never e refl); shown = λ p. absurd (nay p) }
+refuted nay = record { shows = λ e. absurd (never-both false e refl); shown = λ p. absurd (nay p) }
 
 -- what was decided not to hold does not
 pub decided-not : {b : Bool} {P : Type 0} → Decides b P → b ≡ false → P → ⊥
-decided-not d e p = never (d .shown p) e
+decided-not {b} d e p = never-both b (d .shown p) e
 
 -- where a part of the bytes is not what it is to be, they are not
 pub part-differs : (at m j k : ℕ) (s w : List ℕ) → j + k ≤ m → (part (at + j) k s ≡ part j k w → ⊥) → Decides false (part at m s ≡ w)

@@ -4,7 +4,6 @@ use mathlib.Core.Path.{_≡_, refl, sym, ap, _∙_}
 use mathlib.Core.Bool.{Bool, true, false}
 use mathlib.Core.List.{List, _++_}
 use native.Mathlib.Omega.{arith}
-use lib.Dec.{T}
 use lib.ListN.{length, getD, drop}
 use Rattle.little.specs.Little.{part, AreBytes}
 use Rattle.model.specs.declared.Plan.{Plan}
@@ -12,7 +11,6 @@ use Rattle.model.specs.declared.Entry.{Entry}
 use Rattle.model.specs.declared.Figures.{Figures}
 use Rattle.model.specs.Sizes.{areaLength, headerLength, recordLength}
 use Rattle.model.specs.Stations.{unopened, opened, validPlan}
-use Rattle.model.specs.Figuring.{figuresOf}
 use Rattle.model.specs.Calls.{admissibleStation}
 use Rattle.model.specs.Area.{zeros, figureBytes, areaOf, planIn, countIn, entriesIn, Reading, unsound, holds, reading}
 use Rattle.model.proofs.AreaReading.{reading-of-area}
@@ -25,7 +23,7 @@ use Rattle.replay.specs.Standing.{nothingStands, standingOf, Headed, Hea
 use Rattle.replaying.proofs.Parts.{length-entries, stand-fails, parts-sound, SoundParts, sound-parts, zero-parts}
 
 -- the entries of fewer records are the older ones
-pub entries-older : (p : Plan) (records : List ℕ) (count newest : ℕ)
+entries-older : (p : Plan) (records : List ℕ) (count newest : ℕ)
     → entriesIn p records (count - newest) ≡ drop newest (entriesIn p records count)
 unfolding entriesIn
 entries-older p records count zero = let all : count - 0 ≡ count = omega arith in rw all

@@ -5,7 +5,7 @@ use mathlib.Core.Bool.{Bool, true, false, cond, not, _&&_, and-false}
 use native.Mathlib.Nat.{add-zero}
 use native.Mathlib.Omega.{arith}
 use lib.Dec.{eqb, ltb}
-use borrow.Author.Tests.{eq-eqb, ne-eqb, le-leb, le-ltb, lt-ltb, eqb-true, eqb-false}
+use borrow.Author.Tests.{eq-eqb, ne-eqb, le-leb, le-ltb, lt-ltb, eqb-true, eqb-false, not-false}
 use Rattle.plans.specs.Stops.{setUpChanged, longStop}
 use Rattle.plans.specs.Continuous.{screening, sampling, isSampling, afterRun, afterBlock, afterStop}
 use Rattle.model.specs.declared.Plan.{Plan}
@@ -18,11 +18,12 @@ use Rattle.model.specs.Calls.{isDiscontinued, accepts}
 use Rattle.model.proofs.Booleans.{both-true, never-both, within-of}
 use Rattle.model.proofs.Allowed.{AllowedRun, AllowedBlock, continuous-plan}
 use Rattle.records.specs.declared.Record.{Record}
-use Rattle.replaying.specs.Replaying.{headOf, isStop, entryOf, wellFormed, soundAt, unsoundAt, NoMore}
+use Rattle.replaying.specs.Replaying.{entryOf, oneNumber, NoMore, wellFormed, headOf, isStop, soundAt, unsoundAt}
 use Rattle.replaying.proofs.Answers.{accepted, run-formed, run-of, block-formed, block-of, stop-formed, stop-of, no-more}
 use Rattle.replaying.proofs.Heads.{head-is}
+use Rattle.replaying.proofs.Stops.{pause-head, stop-form, stop-accepts}
 use Rattle.replay_continuous.specs.Places.{stateOf, figuresAt, Placed, Known, Headed, standing, nowhere, reached, Reaches}
-use Rattle.replay_continuous.proofs.Kept.{run-accepts, block-accepts, stop-accepts, stop-is, cannot-stand}
+use Rattle.replay_continuous.proofs.Kept.{run-accepts, block-accepts, cannot-stand}
 
 -- ---- the state that two numbers stand for
 
@@ -96,9 +97,9 @@ module _ (p : Plan) (kind : p .kind ≡ 3) (left tail acc : ℕ) (start : Figure
 
 -- a record whose head was made, and that was looked through for more numbers
 pub headed-by : (head : ℕ) (r : Record) → (head ≡ headOf r) × (r .kind < 256) × (r .flag < 256)
-    → (more : Bool) → more ≡ not (eqb (r .b) 0 && eqb (r .c) 0 && eqb (r .d) 0) → more ≡ false → Headed head r
+    → (more : Bool) → more ≡ not (oneNumber r) → more ≡ false → Headed head r
 headed-by head r x more e none =
-    record { same = x .0; kindByte = x .1; flagByte = x .2; more = no-more r more e none }
+    record { same = x .0; kindByte = x .1; flagByte = x .2; more = no-more r (not-false (oneNumber r) (sym e ∙ none)) }
 
 in-range : (low high n : ℕ) → low ≤ n → n ≤ high → within low high n ≡ true
 unfolding within
@@ -148,12 +149,12 @@ module _ (p : Plan) (left tail acc : ℕ) (r : Record) (known : Known p left tai
       → AllowedBlock p (figuresAt (p .a) start left tail acc) i (r .a) (r .flag) → ⊥)
       → (NoMore r → isStop r ≡ true → ⊥)
       → Reaches p left tail acc r nowhere
-  unfolding nowhere reached unsoundAt
+  unfolding nowhere reached unsoundAt figuresAt isDiscontinued
   fallen run block stop =
       record {
         placed = record { least = omega arith; noTail = λ h. refl; short = omega arith };
         says = λ start i running room.
-            cannot-stand p (figuresAt (p .a) start left tail acc) i r continuous (run start i) (block start i) stop;
+            cannot-stand p (figuresAt (p .a) start left tail acc) i r continuous running room (run start i) (block start i) stop;
       }
 
   -- a pause is looked at in sampling alone
@@ -182,7 +183,7 @@ module _ (p : Plan) (left tail acc : ℕ) (r : Record) (known : Known p left tai
         let held : left ≡ 0 → ⊥ = λ z. omega arith in
         taken (Run (r .a) (r .flag)) l tail (acc + r .a)
         (record { least = most; noTail = λ h. known .placed .noTail (omega arith); short = known .placed .short })
-        (λ f. (run-formed p f 0 r (x .0) (x .2) (headed .more), run-of p f 0 r (x .0)))
+        (λ f. (run-formed r (x .0) (x .2) (headed .more), run-of p f r (x .0)))
         (λ start i running room.
         run-accepts p (figuresAt (p .a) start left tail acc) i (r .a) (r .flag)
         (record {
@@ -214,10 +215,11 @@ module _ (p : Plan) (left tail acc : ℕ) (r : Record) (known : Known p left tai
         → Reaches p left tail acc r (standing l t acc)
     unfolding figuresAt isDiscontinued
     stop-taken l t h placed after =
-        let x = stop-is r (headed .kindByte) (headed .flagByte) h in
+        let x = stop-form r (headed .kindByte) h in
         taken (Stop (r .flag) (r .a)) l t acc placed
-        (λ f. (stop-formed p f 0 r (x .0) (x .1) (headed .more), stop-of p f 0 r (x .0)))
-        (λ start i running room. stop-accepts p (figuresAt (p .a) start left tail acc) i (r .flag) (r .a) running room (x .2))
+        (λ f. (stop-formed r (x .0) (x .1) (headed .more), stop-of p f r (x .0)))
+        (λ start i running room.
+        stop-accepts p (figuresAt (p .a) start left tail acc) i r running room (x .0) (x .1) (headed .more) ∙ h)
         (λ start. stop-step p (known .kind) left tail acc start (r .flag) (r .a) l t after)
 
     whole : Placed p (p .a) 0
@@ -234,9 +236,9 @@ module _ (p : Plan) (left tail acc : ℕ) (r : Record) (known : Known p left tai
     pause-flag : isStop r ≡ true → (head ≡ 516 → ⊥) → r .flag ≡ 1
     unfolding headOf
     pause-flag h other =
-        let x = stop-is r (headed .kindByte) (headed .flagByte) h in
-        let same = headed .same in
-        omega (arith, x .2)
+        let head = pause-head r h (λ e. other (headed .same ∙ e)) in
+        let kind = headed .kindByte in
+        omega arith
 
     -- a pause that is short, or met in screening
     pub pause-stays : isStop r ≡ true → (head ≡ 516 → ⊥) → eqb left 0 && ltb 3 (r .a) ≡ false
@@ -262,7 +264,7 @@ module _ (p : Plan) (left tail acc : ℕ) (r : Record) (known : Known p left tai
         let x = parts 3 w (omega arith) (omega arith) e in
         let range = within-of 1 (p .b) (r .a) counts in
         taken (Block (r .a) (r .flag)) l t (acc + a) placed
-        (λ f. (block-formed p f 0 r (x .0) (x .2) (headed .more), block-of p f 0 r (x .0)))
+        (λ f. (block-formed r (x .0) (x .2) (headed .more), block-of p f r (x .0)))
         (λ start i running room.
         block-accepts p (figuresAt (p .a) start left tail acc) i (r .a) (r .flag)
         (record {
@@ -303,7 +305,7 @@ module _ (p : Plan) (left tail acc : ℕ) (r : Record) (known : Known p left tai
 
     no-stop : (k w : ℕ) → k < 4 → w < 256 → head ≡ k + w * 256 → isStop r ≡ true → ⊥
     no-stop k w hk hw e h =
-        other-kind k w 4 (omega arith) hw e (λ z. omega arith) (stop-is r (headed .kindByte) (headed .flagByte) h .0)
+        other-kind k w 4 (omega arith) hw e (λ z. omega arith) (stop-form r (headed .kindByte) h .0)
 
     run-falls : (w : ℕ) → w < 256 → head ≡ 2 + w * 256
         → ((start : Figures) (i : ℕ) → AllowedRun p (figuresAt (p .a) start left tail acc) i (r .a) w → ⊥)

@@ -12,7 +12,7 @@ use Rattle.model.specs.Stations.{validPlan}
 use Rattle.model.specs.Calls.{isDiscontinued}
 use Rattle.records.specs.declared.Record.{Record}
 use Rattle.replaying.specs.declared.Entered.{Entered}
-use Rattle.replaying.specs.Replaying.{headOf, entered, NoMore}
+use Rattle.replaying.specs.Replaying.{headOf, enteredIf, entered, NoMore}
 use Rattle.replay_continuous.specs.declared.Place.{Place}
 
 -- what a state leaves to be screened until clearance; 0 in sampling
@@ -64,8 +64,7 @@ nowhere = record { stands = false; left = 0; tail = 0; accepted = 0 }
 
 -- what a place says of a record that was entered after figures f
 unfoldable pub reached : ℕ → Figures → Figures → Place → Entered
-reached clearance start f x =
-    record { sound = x .stands; figures = cond (x .stands) (figuresAt clearance start (x .left) (x .tail) (x .accepted)) f }
+reached clearance start f x = enteredIf (x .stands) (figuresAt clearance start (x .left) (x .tail) (x .accepted)) f
 
 -- the place x says what entering the record gives, whatever the other figures are
 pub record Reaches (p : Plan) (left tail accepted : ℕ) (r : Record) (x : Place) : Type 0 where

@@ -7,7 +7,7 @@ ghost use mathlib.Core.Bool.{not, _&&_};
 ghost use Prim.Native.Nat.{_≤_};
 ghost use lib.Dec.{eqb};
 ghost use Rattle.model.specs.Stations.{within as isWithin};
-ghost use Rattle.replaying.specs.Replaying.{Ready, Replayed};
+ghost use Rattle.replaying.specs.Replaying.{oneNumber, Ready, Replayed};
 ghost use Rattle.replay_continuous.specs.Places.{leftOf, stateOf, figuresAt, standing, nowhere, Known, Headed, Reaches};
 use model::Figures;
 use model::Plan;
@@ -144,7 +144,7 @@ fn is_wrong_block(interval: u32, head: u32, heard: u32) -> bool
 
 // Whether a record has a second, third or fourth number. The second and third are compared at once, as one of 64 bits.
 fn has_more(read: Record) -> bool
-    ensures { λ r. ⌜ r ≡ not (eqb (read .b) 0 && eqb (read .c) 0 && eqb (read .d) 0) ⌝ }
+    ensures { λ r. ⌜ r ≡ not (oneNumber read) ⌝ }
 {
     if read.b as u64 + read.c as u64 * 4294967296 != 0 {
         return true;

@@ -1,5 +1,4 @@
 -- Laws of a credit stream's replay.
-pub mod Foreign
 pub mod Lots
 pub mod Steps
 pub mod Turning

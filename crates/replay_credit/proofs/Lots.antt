@@ -1,10 +1,10 @@
 -- The answers to a lot's record on a credit stream, one law for each. Assumes nothing.
 use Prim.Native.Nat.{ℕ, _+_, _-_, _≤_, _<_}
-use mathlib.Core.Path.{_≡_, refl, ap, _∙_}
+use mathlib.Core.Path.{_≡_, ap, _∙_}
 use mathlib.Core.Bool.{Bool, true, false, cond, not, _&&_, _||_, and-false}
 use native.Mathlib.Omega.{arith}
 use lib.Dec.{eqb, leb·zero}
-use borrow.Author.Tests.{eqb-true, eqb-false, eq-eqb, ne-eqb, le-leb, lt-leb}
+use borrow.Author.Tests.{eqb-true, eq-eqb, ne-eqb, le-leb, lt-leb}
 use Rattle.plans.specs.Credit.{creditSample, creditVerdict, creditAfter}
 use Rattle.plans.specs.Verdicts.{lotHeard, lotWithheld, acceptedOf}
 use Rattle.model.specs.declared.Plan.{Plan}
@@ -12,10 +12,12 @@ use Rattle.model.specs.Stations.{hasOption, within}
 use Rattle.model.specs.Calls.{countsAgree}
 use Rattle.model.proofs.Booleans.{both-true, within-of}
 use Rattle.records.specs.declared.Record.{Record}
-use Rattle.replaying.specs.Replaying.{headOf, isStop, noneWrong}
+use Rattle.replaying.specs.Replaying.{headOf, noneWrong}
+use Rattle.replaying.specs.LotStreams.{mayFollow}
+use Rattle.replaying.proofs.LotStreams.{none-wrong}
 use Rattle.replay_credit.specs.declared.Carried.{Carried}
 use Rattle.replay_credit.specs.declared.Step.the-variants.{Stands, Fails}
-use Rattle.replay_credit.specs.Carrying.{stepIf, mayFollow, verdictIn, countsFit, afterLot, lotStep, stepOf}
+use Rattle.replay_credit.specs.Carrying.{verdictIn, countsFit, afterLot, lotStep, stopStep, stepOf}
 
 -- the range of all that was found wrong, by the verdict v on a lot of N with d wrong in a sample of n: the rule's last two parts
 abbrev byVerdict : ℕ → ℕ → ℕ → ℕ → ℕ → Bool
@@ -27,33 +29,26 @@ module _ (p : Plan) (s : Carried) (r : Record) where
   unfolding stepOf
   lot-step head = rw (eq-eqb (headOf r) 1 head)
 
-  pub stop-step : (headOf r ≡ 1 → ⊥) → stepIf (isStop r) s ≡ stepOf p s r
+  pub stop-step : (headOf r ≡ 1 → ⊥) → stopStep s r ≡ stepOf p s r
   unfolding stepOf
   stop-step other = rw (ne-eqb (headOf r) 1 other)
 
-  pub size-in-range : mayFollow s r ≡ true → (1 ≤ r .b) × (r .b ≤ 1000000)
-  unfolding mayFollow
-  size-in-range e = within-of 1 1000000 (r .b) (both-true (not (eqb (r .a) (s .newest))) (within 1 1000000 (r .b)) e .1)
-
-  pub not-following : mayFollow s r ≡ false → Fails ≡ lotStep p s r
-  unfolding lotStep stepIf
+  pub not-following : mayFollow 1 (s .newest) r ≡ false → Fails ≡ lotStep p s r
+  unfolding lotStep
   not-following e = rw e
 
   pub counts-unfit : countsFit p s r ≡ false → Fails ≡ lotStep p s r
-  unfolding lotStep stepIf
-  counts-unfit e = rw (e, and-false (mayFollow s r))
+  unfolding lotStep
+  counts-unfit e = rw (e, and-false (mayFollow 1 (s .newest) r))
 
-  pub lot-stands : mayFollow s r ≡ true → countsFit p s r ≡ true → Stands (afterLot p s r) ≡ lotStep p s r
-  unfolding lotStep stepIf
+  pub lot-stands : mayFollow 1 (s .newest) r ≡ true → countsFit p s r ≡ true → Stands (afterLot p s r) ≡ lotStep p s r
+  unfolding lotStep
   lot-stands e c = rw (e, c)
 
   -- nothing wrong: accepted whole, whatever the sample
   module _ (none : noneWrong r ≡ true) where
     zeros : (r .c ≡ 0) × (r .d ≡ 0)
-    unfolding noneWrong
-    zeros =
-        let both = both-true (eqb (r .c) 0) (eqb (r .d) 0) none in
-        (eqb-true (r .c) 0 (both .0), eqb-true (r .d) 0 (both .1))
+    zeros = none-wrong r none
 
     good-counts : countsFit p s r ≡ true
     unfolding countsFit countsAgree verdictIn creditVerdict
@@ -64,7 +59,7 @@ module _ (p : Plan) (s : Carried) (r : Record) where
     unfolding verdictIn creditVerdict afterLot creditAfter acceptedOf
     after-good = rw (eq-eqb (r .c) 0 (zeros .0))
 
-    pub good-lot : mayFollow s r ≡ true
+    pub good-lot : mayFollow 1 (s .newest) r ≡ true
         → Stands (record { credit = s .credit + r .b; accepted = s .accepted + r .b; newest = r .a }) ≡ lotStep p s r
     good-lot e = ap Stands after-good ∙ lot-stands e good-counts
 

@@ -6,13 +6,13 @@ ghost use Prim.Native.Nat.{_<_};
 ghost use lib.ListN.{length};
 ghost use Rattle.model.specs.Sizes.{areaLength, mostRecords};
 ghost use Rattle.records.specs.Records.{recordIn, recordAt};
-ghost use Rattle.replaying.specs.Replaying.{Ready, Replayed, noneWrong, isStop};
+ghost use Rattle.replaying.specs.Replaying.{Ready, Replayed, noneWrong};
+ghost use Rattle.replaying.specs.LotStreams.{mayFollow};
 ghost use Rattle.replay_credit.specs.Carrying.{
   figuresIn,
   carriedFrom,
-  mayFollow,
   lotStep,
-  stepIf,
+  stopStep,
   stepOf,
   Bounded,
 };
@@ -25,11 +25,9 @@ use plans::level::LevelState;
 use plans::verdict;
 use records::Record;
 use replaying::Entered;
+use replaying::NO_LABEL;
 use rules::plan;
 use rules::refusing;
-
-// In place of the newest lot's label where no lot stands: 2^32, as large as no label is.
-const NO_LABEL: u64 = 4294967296;
 
 // What a record of a credit stream can change.
 struct Carried {
@@ -127,7 +125,7 @@ fn enter(area: &[u8], plan: Plan, carried: Carried, i: usize) -> Step
 // Paper 01, "Calls", Stop: on credit streams it is entered without effect.
 fn enter_stop(area: &[u8], carried: Carried, i: usize) -> Step
     requires { ⌜ (length (now area) ≡ areaLength) × (i < mostRecords) ⌝ }
-    ensures { λ r. ⌜ r ≡ stepIf (isStop (recordIn (recordAt (now (area .entry)) i))) carried ⌝ }
+    ensures { λ r. ⌜ r ≡ stopStep carried (recordIn (recordAt (now (area .entry)) i)) ⌝ }
 {
     let read = records::get_record(area, i);
     if replaying::is_stop(replaying::head_of(read), read) {
@@ -138,7 +136,7 @@ fn enter_stop(area: &[u8], carried: Carried, i: usize) -> Step
 
 // What refusals 10 and 11 leave: a label other than the newest lot's, and a size in range.
 fn may_follow(carried: Carried, read: Record) -> bool
-    ensures { λ r. ⌜ r ≡ mayFollow carried read ⌝ }
+    ensures { λ r. ⌜ r ≡ mayFollow 1 (carried .newest) read ⌝ }
 {
     if read.a as u64 == carried.newest {
         return false;
@@ -148,7 +146,7 @@ fn may_follow(carried: Carried, read: Record) -> bool
 
 // Only a lot with something wrong has its sample worked out: what refusal 13 leaves of it, and what it then changes.
 fn enter_wrong_lot(plan: Plan, carried: Carried, read: Record) -> Step
-    requires { ⌜ Bounded plan carried × (mayFollow carried read ≡ true) × (noneWrong read ≡ false) ⌝ }
+    requires { ⌜ Bounded plan carried × (mayFollow 1 (carried .newest) read ≡ true) × (noneWrong read ≡ false) ⌝ }
     ensures { λ r. ⌜ r ≡ lotStep plan carried read ⌝ }
 {
     if read.c == 0 {

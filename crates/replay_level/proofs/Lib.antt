@@ -1,5 +1,4 @@
 -- Laws of the replay of a level stream in six numbers.
-pub mod Foreign
 pub mod Samples
 pub mod Lots
 pub mod Steps

@@ -1,23 +1,24 @@
 -- The answers to a record on a level stream, one law for each. Assumes nothing.
-use Prim.Native.Nat.{ℕ, _+_, _≤_, _<_}
-use mathlib.Core.Path.{_≡_, refl, sym, ap, _∙_}
-use mathlib.Core.Bool.{Bool, true, false, cond, not, _&&_, and-false}
+use Prim.Native.Nat.{ℕ, _+_, _≤_}
+use mathlib.Core.Path.{_≡_, ap, _∙_}
+use mathlib.Core.Bool.{Bool, true, false, and-false}
 use native.Mathlib.Nat.{add-zero}
 use native.Mathlib.Omega.{arith}
-use lib.Dec.{eqb, ltb, leb·zero}
+use lib.Dec.{eqb, leb·zero}
 use borrow.Author.Tests.{eqb-true, eq-eqb, ne-eqb, le-leb, lt-ltb}
 use Rattle.plans.specs.Verdicts.{levelVerdict, acceptedOf}
 use Rattle.plans.specs.Tables.{levelSample}
 use Rattle.plans.specs.Levels.{judgedLot}
-use Rattle.plans.specs.declared.level.LevelState.{LevelState}
 use Rattle.model.specs.declared.Plan.{Plan}
-use Rattle.model.specs.Stations.{hasOption, within}
-use Rattle.model.proofs.Booleans.{both-true, within-of}
+use Rattle.model.specs.Stations.{hasOption}
+use Rattle.model.proofs.Booleans.{both-true}
 use Rattle.records.specs.declared.Record.{Record}
-use Rattle.replaying.specs.Replaying.{headOf, isStop, noneWrong}
+use Rattle.replaying.specs.Replaying.{headOf, noneWrong}
+use Rattle.replaying.specs.LotStreams.{mayFollow}
+use Rattle.replaying.proofs.LotStreams.{none-wrong}
 use Rattle.replay_level.specs.declared.Carried.{Carried}
 use Rattle.replay_level.specs.declared.Step.the-variants.{Stands, Fails}
-use Rattle.replay_level.specs.Carrying.{stepIf, mayFollow, fitsSample, afterLot, afterStop, lotStep, stepOf}
+use Rattle.replay_level.specs.Carrying.{fitsSample, afterLot, lotStep, stopStep, stepOf}
 use Rattle.replay_level.proofs.Samples.{sample-least}
 
 module _ (p : Plan) (s : Carried) (r : Record) where
@@ -30,33 +31,26 @@ module _ (p : Plan) (s : Carried) (r : Record) where
   unfolding stepOf
   lot-step on head = rw (ne-eqb (s .state .level) 3 on, eq-eqb (headOf r) 1 head)
 
-  pub stop-step : (s .state .level ≡ 3 → ⊥) → (headOf r ≡ 1 → ⊥) → stepIf (isStop r) (afterStop s r) ≡ stepOf p s r
+  pub stop-step : (s .state .level ≡ 3 → ⊥) → (headOf r ≡ 1 → ⊥) → stopStep s r ≡ stepOf p s r
   unfolding stepOf
   stop-step on other = rw (ne-eqb (s .state .level) 3 on, ne-eqb (headOf r) 1 other)
 
-  pub size-in-range : mayFollow s r ≡ true → (2 ≤ r .b) × (r .b ≤ 1000000)
-  unfolding mayFollow
-  size-in-range e = within-of 2 1000000 (r .b) (both-true (not (eqb (r .a) (s .newest))) (within 2 1000000 (r .b)) e .1)
-
-  pub not-following : mayFollow s r ≡ false → Fails ≡ lotStep p s r
-  unfolding lotStep stepIf
+  pub not-following : mayFollow 2 (s .newest) r ≡ false → Fails ≡ lotStep p s r
+  unfolding lotStep
   not-following e = rw e
 
   pub unfit : fitsSample (p .a) (s .state .level) r ≡ false → Fails ≡ lotStep p s r
-  unfolding lotStep stepIf
-  unfit e = rw (e, and-false (mayFollow s r))
+  unfolding lotStep
+  unfit e = rw (e, and-false (mayFollow 2 (s .newest) r))
 
-  lot-stands : mayFollow s r ≡ true → fitsSample (p .a) (s .state .level) r ≡ true → Stands (afterLot p s r) ≡ lotStep p s r
-  unfolding lotStep stepIf
+  lot-stands : mayFollow 2 (s .newest) r ≡ true → fitsSample (p .a) (s .state .level) r ≡ true → Stands (afterLot p s r) ≡ lotStep p s r
+  unfolding lotStep
   lot-stands e c = rw (e, c)
 
   -- nothing wrong: accepted whole, whatever the sample
   module _ (none : noneWrong r ≡ true) where
     zeros : (r .c ≡ 0) × (r .d ≡ 0)
-    unfolding noneWrong
-    zeros =
-        let both = both-true (eqb (r .c) 0) (eqb (r .d) 0) none in
-        (eqb-true (r .c) 0 (both .0), eqb-true (r .d) 0 (both .1))
+    zeros = none-wrong r none
 
     good-fits : fitsSample (p .a) (s .state .level) r ≡ true
     unfolding fitsSample
@@ -66,7 +60,7 @@ module _ (p : Plan) (s : Carried) (r : Record) where
     unfolding afterLot acceptedOf levelVerdict
     after-good = simp (zeros .0)
 
-    pub good-lot : mayFollow s r ≡ true
+    pub good-lot : mayFollow 2 (s .newest) r ≡ true
         → Stands (record { state = judgedLot (hasOption p) false (s .state); accepted = s .accepted + r .b; newest = r .a }) ≡ lotStep p s r
     good-lot e = ap Stands after-good ∙ lot-stands e good-fits
 
@@ -84,7 +78,7 @@ module _ (p : Plan) (s : Carried) (r : Record) where
     unfolding afterLot acceptedOf levelVerdict
     after-wrong = simp (lt-ltb 0 (r .c) (omega (arith, wrong)), ne-eqb (r .c) 0 wrong, add-zero)
 
-    pub wrong-lot : mayFollow s r ≡ true
+    pub wrong-lot : mayFollow 2 (s .newest) r ≡ true
         → Stands (record { state = judgedLot (hasOption p) true (s .state); accepted = s .accepted; newest = r .a }) ≡ lotStep p s r
     wrong-lot e = ap Stands after-wrong ∙ lot-stands e fits
 

@@ -1,5 +1,5 @@
 -- No sample of a level lot is smaller than 2: Table 2 has no smaller number, and the lot is no smaller. Assumes nothing.
-use Prim.Native.Nat.{ℕ, _≤_, _<_, _-_}
+use Prim.Native.Nat.{ℕ, _≤_, _<_}
 use mathlib.Core.Bool.{Bool}
 use native.Mathlib.Omega.{arith}
 use lib.Dec.{eqb, leb, leb→le}

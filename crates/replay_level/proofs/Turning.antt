@@ -1,45 +1,42 @@
 -- One turn of a level stream's replay: from the step on the six numbers to the records that stand. Assumes nothing.
-use Prim.Native.Nat.{ℕ, _+_, _≤_, _<_}
+use Prim.Native.Nat.{ℕ, _+_, _<_}
 use mathlib.Core.Path.{_≡_, refl, sym, ap, _∙_}
-use mathlib.Core.Bool.{true, false}
+use mathlib.Core.Bool.{false}
 use mathlib.Core.List.{List}
 use native.Mathlib.Omega.{arith}
-use lib.Dec.{T}
-use lib.ListN.{length}
 use Rattle.little.specs.Little.{AreBytes}
 use Rattle.model.specs.declared.Plan.{Plan}
-use Rattle.model.specs.Sizes.{areaLength}
-use Rattle.model.specs.Stations.{validPlan}
+use Rattle.model.specs.declared.Figures.{Figures}
+use Rattle.model.specs.Stations.{isCredit, isContinuous}
 use Rattle.model.specs.Area.{entriesIn}
 use Rattle.model.proofs.Allowed.{level-plan}
 use Rattle.model.specs.FigureBounds.{FiguresWithin}
+use Rattle.model.proofs.Backward.{credit-backward}
 use Rattle.records.specs.Records.{recordIn, recordAt}
-use Rattle.replaying.specs.Replaying.{entered, soundAt, unsoundAt, recordsIn, figuresTo, standTo, Replayed}
+use Rattle.replaying.specs.Replaying.{entered, soundAt, unsoundAt, recordsIn, figuresTo, Ready, Replayed}
+use Rattle.replaying.specs.LotStreams.{lotFigures}
 use Rattle.replaying.proofs.Heads.{kind-byte, flag-byte, label-word}
-use Rattle.replaying.proofs.Parts.{stand-admissible, figures-to-within}
-use Rattle.replaying.proofs.Turns.{turn-taken, turn-failed}
+use Rattle.replaying.proofs.Turns.{ready-within, turn-taken, turn-failed}
+use Rattle.replaying.proofs.LotStreams.{numbers-kept}
 use Rattle.replay_level.specs.declared.Carried.{Carried}
 use Rattle.replay_level.specs.declared.Step.the-variants.{Stands, Fails}
 use Rattle.replay_level.specs.Carrying.{figuresIn, carriedFrom, Bounded, stepOf}
-use Rattle.replay_level.proofs.Foreign.{not-credit, not-continuous, LevelOnly, entries-only, carried-same}
 use Rattle.replay_level.proofs.Steps.{enteredAs, step-entered}
 
-module _ (p : Plan) (kind : p .kind ≡ 2) (valid : T (validPlan p)) (area : List ℕ) (whole : length area ≡ areaLength) (bytes : AreBytes area) where
-  level-only : (i : ℕ) → i ≤ 128 → standTo p area i ≡ true → LevelOnly (figuresTo p area i)
-  unfolding figuresTo
-  level-only i room stood = entries-only p kind (entriesIn p (recordsIn area) i) (stand-admissible p area i whole bytes room stood)
-
+module _ (p : Plan) (kind : p .kind ≡ 2) (area : List ℕ) (bytes : AreBytes area) where
   -- the six numbers taken from the figures stand for them
-  pub figures-kept : (i : ℕ) → i ≤ 128 → standTo p area i ≡ true → figuresIn (carriedFrom (figuresTo p area i)) ≡ figuresTo p area i
-  figures-kept i room stood =
-      carried-same (figuresTo p area i) (level-only i room stood) (figures-to-within p area i whole bytes room stood valid .labels)
+  pub ready-numbers : (f : Figures) (i to : ℕ) → Ready p area f i to → Ready p area (figuresIn (carriedFrom f)) i to
+  unfolding figuresIn carriedFrom figuresTo isCredit isContinuous
+  ready-numbers f i to ready =
+      let none : f .credit .0 ≡ 0 = rw (ready .brought) (credit-backward p (entriesIn p (recordsIn area) i) ∙ rw kind) in
+      rw (numbers-kept p area f i to (rw kind) bytes ready 0 _ none refl) ready
 
-  module _ (s : Carried) (i : ℕ) (room : i < 128) (stood : standTo p area i ≡ true) (same : figuresIn s ≡ figuresTo p area i) where
+  module _ (s : Carried) (i to : ℕ) (ready : Ready p area (figuresIn s) i to) (more : i < to) where
     pub bounded : Bounded p s
-    unfolding figuresIn
+    unfolding figuresIn lotFigures isCredit isContinuous
     bounded =
-        let stated = level-plan p valid (not-credit p kind) (not-continuous p kind) in
-        let fits : FiguresWithin i (figuresIn s) = rw same (figures-to-within p area i whole bytes (omega arith) stood valid) in
+        let fits = ready-within p area (figuresIn s) i to ready bytes in
+        let stated = level-plan p (ready .valid) (rw kind) (rw kind) in
         record {
           rows = omega (arith, fits .levels .rows);
           judgedLots = omega (arith, fits .levels .judgedLots);
@@ -50,21 +47,19 @@ module _ (p : Plan) (kind : p .kind ≡ 2) (valid : T (validPlan p)) (area : Lis
 
     entered-step : enteredAs (figuresIn s) (stepOf p s (recordIn (recordAt area i))) ≡ entered p (figuresIn s) i (recordIn (recordAt area i))
     entered-step =
+        let room : i < 128 = omega arith in
         sym (
-        step-entered p kind s i room (recordIn (recordAt area i)) (kind-byte area i whole bytes room) (flag-byte area i whole bytes room)
-        (label-word area i whole bytes room)
+        step-entered p kind s (recordIn (recordAt area i)) i room (kind-byte area i (ready .whole) bytes room)
+        (flag-byte area i (ready .whole) bytes room) (label-word area i (ready .whole) bytes room)
         )
 
-    pub turned : (next : Carried) → Stands next ≡ stepOf p s (recordIn (recordAt area i))
-        → (standTo p area (i + 1) ≡ true) × (figuresIn next ≡ figuresTo p area (i + 1))
+    pub turned : (next : Carried) → Stands next ≡ stepOf p s (recordIn (recordAt area i)) → Ready p area (figuresIn next) (i + 1) to
     unfolding enteredAs soundAt
     turned next e =
-        turn-taken p area i (figuresIn s) (enteredAs (figuresIn s) (Stands next)) stood same
-        (ap (enteredAs (figuresIn s)) e ∙ entered-step) refl
+        turn-taken p area (figuresIn s) i to ready more (enteredAs (figuresIn s) (Stands next)) (ap (enteredAs (figuresIn s)) e ∙ entered-step) refl
 
-    pub stopped : Fails ≡ stepOf p s (recordIn (recordAt area i)) → (to : ℕ) → i < to
-        → Replayed p area to (record { sound = false; figures = figuresIn s })
+    pub stopped : Fails ≡ stepOf p s (recordIn (recordAt area i)) → Replayed p area to (record { sound = false; figures = figuresIn s })
     unfolding enteredAs unsoundAt
-    stopped e to more =
-        turn-failed p area i (figuresIn s) (enteredAs (figuresIn s) Fails) stood same
-        (ap (enteredAs (figuresIn s)) e ∙ entered-step) to (omega arith) refl
+    stopped e =
+        turn-failed p area (figuresIn s) i to ready more (enteredAs (figuresIn s) Fails) (ap (enteredAs (figuresIn s)) e ∙ entered-step) refl
+        (figuresIn s)

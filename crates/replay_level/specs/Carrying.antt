@@ -1,40 +1,28 @@
 -- The figures of a level stream in six numbers, and what a record does to them: paper 01, "Level lots". Assumes nothing.
-use Prim.Native.Nat.{ℕ, _+_, _%_, _≤_}
-use mathlib.Core.Bool.{Bool, true, false, cond, not, _&&_}
+use Prim.Native.Nat.{ℕ, _+_, _≤_}
+use mathlib.Core.Bool.{Bool, cond, _&&_}
 use lib.Dec.{eqb, ltb, leb}
 use Rattle.plans.specs.Severities.{discontinued}
 use Rattle.plans.specs.Verdicts.{levelVerdict, acceptedOf}
 use Rattle.plans.specs.Tables.{levelSample}
 use Rattle.plans.specs.Levels.{judgedLot, metStop}
-use Rattle.plans.specs.Continuous.{screening}
 use Rattle.model.specs.declared.Plan.{Plan}
 use Rattle.model.specs.declared.Figures.{Figures}
-use Rattle.model.specs.Stations.{hasOption, within}
+use Rattle.model.specs.Stations.{hasOption}
 use Rattle.records.specs.declared.Record.{Record}
 use Rattle.replaying.specs.Replaying.{headOf, isStop}
+use Rattle.replaying.specs.LotStreams.{newestOf, lotFigures, mayFollow}
 use Rattle.replay_level.specs.declared.Carried.{Carried}
 use Rattle.replay_level.specs.declared.Step.{Step}
 use Rattle.replay_level.specs.declared.Step.the-variants.{Stands, Fails}
 
--- in place of the newest label where no lot stands: 2 ^ 32, as large as no label is
-abbrev pub noLabel : ℕ
-noLabel = 4294967296
-
 -- the figures that the numbers stand for; those foreign to the plan are zero
 unfoldable pub figuresIn : Carried → Figures
-figuresIn s =
-    record {
-      credit = record { 0 = 0 };
-      level = s .state;
-      continuous = screening 0;
-      accepted = s .accepted;
-      labelled = ltb (s .newest) noLabel;
-      label = s .newest % noLabel;
-    }
+figuresIn s = lotFigures 0 (s .state) (s .accepted) (s .newest)
 
 -- and back
 unfoldable pub carriedFrom : Figures → Carried
-carriedFrom f = record { state = f .level; accepted = f .accepted; newest = cond (f .labelled) (f .label) noLabel }
+carriedFrom f = record { state = f .level; accepted = f .accepted; newest = newestOf f }
 
 -- what the sums and the sample ask for: the numbers of at most 127 records, and a stated level
 pub record Bounded (p : Plan) (s : Carried) : Type 0 where
@@ -44,16 +32,7 @@ pub record Bounded (p : Plan) (s : Carried) : Type 0 where
   pub least : 1 ≤ p .a
   pub most : p .a ≤ 7
 
--- where the test holds the record stands, and leaves these numbers
-unfoldable pub stepIf : Bool → Carried → Step
-stepIf true s = Stands s
-stepIf false s = Fails
-
 -- a lot's record: label a, size b, wrong in the sample c, wrong in all that was heard d
-
--- what refusals 10 and 11 leave: another label than the newest, a size in range
-unfoldable pub mayFollow : Carried → Record → Bool
-mayFollow s r = not (eqb (r .a) (s .newest)) && within 2 1000000 (r .b)
 
 -- what refusal 13 leaves, of the sample that was asked
 unfoldable pub fitsSample : ℕ → ℕ → Record → Bool
@@ -68,14 +47,17 @@ afterLot p s r =
     }
 
 unfoldable pub lotStep : Plan → Carried → Record → Step
-lotStep p s r = stepIf (mayFollow s r && fitsSample (p .a) (s .state .level) r) (afterLot p s r)
+lotStep p s r = cond (mayFollow 2 (s .newest) r && fitsSample (p .a) (s .state .level) r) (Stands (afterLot p s r)) Fails
 
 -- a stop's record: days a
 unfoldable pub afterStop : Carried → Record → Carried
 afterStop s r = record { state = metStop (r .flag) (r .a) (s .state); accepted = s .accepted; newest = s .newest }
 
+unfoldable pub stopStep : Carried → Record → Step
+stopStep s r = cond (isStop r) (Stands (afterStop s r)) Fails
+
 -- nothing is accepted on a discontinued stream; elsewhere a lot's record, or else a stop's
 unfoldable pub stepOf : Plan → Carried → Record → Step
 stepOf p s r =
     cond (eqb (s .state .level) discontinued) Fails
-    (cond (eqb (headOf r) 1) (lotStep p s r) (stepIf (isStop r) (afterStop s r)))
+    (cond (eqb (headOf r) 1) (lotStep p s r) (stopStep s r))

@@ -6,15 +6,14 @@ ghost use Prim.Native.Nat.{_≤_, _<_};
 ghost use lib.ListN.{length};
 ghost use Rattle.model.specs.Sizes.{areaLength, mostRecords};
 ghost use Rattle.records.specs.Records.{recordIn, recordAt};
-ghost use Rattle.replaying.specs.Replaying.{Ready, Replayed, noneWrong, isStop};
+ghost use Rattle.replaying.specs.Replaying.{Ready, Replayed, noneWrong};
+ghost use Rattle.replaying.specs.LotStreams.{mayFollow};
 ghost use Rattle.replay_level.specs.Carrying.{
   figuresIn,
   carriedFrom,
-  mayFollow,
   fitsSample,
-  afterStop,
+  stopStep,
   lotStep,
-  stepIf,
   stepOf,
   Bounded,
 };
@@ -28,10 +27,8 @@ use plans::level::LevelState;
 use plans::tables;
 use records::Record;
 use replaying::Entered;
+use replaying::NO_LABEL;
 use rules::plan;
-
-// In place of the newest lot's label where no lot stands: 2^32, as large as no label is.
-const NO_LABEL: u64 = 4294967296;
 
 // What a record of a level stream can change.
 struct Carried {
@@ -130,7 +127,7 @@ fn enter(area: &[u8], plan: Plan, carried: Carried, i: usize) -> Step
 // A stop moves a stream on reduced.
 fn enter_stop(area: &[u8], carried: Carried, i: usize) -> Step
     requires { ⌜ (length (now area) ≡ areaLength) × (i < mostRecords) ⌝ }
-    ensures { λ r. ⌜ r ≡ stepIf (isStop (recordIn (recordAt (now (area .entry)) i))) (afterStop carried (recordIn (recordAt (now (area .entry)) i))) ⌝ }
+    ensures { λ r. ⌜ r ≡ stopStep carried (recordIn (recordAt (now (area .entry)) i)) ⌝ }
 {
     let read = records::get_record(area, i);
     if !replaying::is_stop(replaying::head_of(read), read) {
@@ -147,7 +144,7 @@ fn enter_stop(area: &[u8], carried: Carried, i: usize) -> Step
 
 // What refusals 10 and 11 leave: a label other than the newest lot's, and a size in range.
 fn may_follow(carried: Carried, read: Record) -> bool
-    ensures { λ r. ⌜ r ≡ mayFollow carried read ⌝ }
+    ensures { λ r. ⌜ r ≡ mayFollow 2 (carried .newest) read ⌝ }
 {
     if read.a as u64 == carried.newest {
         return false;
@@ -158,7 +155,7 @@ fn may_follow(carried: Carried, read: Record) -> bool
 // A lot with something wrong is withheld, where refusal 13 leaves it. It is judged first, so that the state before it need not be
 // kept while its sample is worked out.
 fn enter_wrong_lot(plan: Plan, carried: Carried, read: Record) -> Step
-    requires { ⌜ Bounded plan carried × (mayFollow carried read ≡ true) × (noneWrong read ≡ false) ⌝ }
+    requires { ⌜ Bounded plan carried × (mayFollow 2 (carried .newest) read ≡ true) × (noneWrong read ≡ false) ⌝ }
     ensures { λ r. ⌜ r ≡ lotStep plan carried read ⌝ }
 {
     let state = carried.state;

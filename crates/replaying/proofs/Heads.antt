@@ -8,11 +8,11 @@ use lib.Dec.{eqb, leb}
 use lib.ListN.{length}
 use borrow.Author.Tests.{eqb-true, eqb-false, eq-eqb, ne-eqb}
 use Rattle.little.specs.Little.{value, part, AreBytes}
-use Rattle.little.proofs.Laws.{length-part, value-range, value-eight}
+use Rattle.little.proofs.Laws.{value-eight}
 use Rattle.model.specs.Sizes.{recordLength, headerLength, mostRecords, areaLength}
 use Rattle.records.specs.declared.Record.{Record}
 use Rattle.records.specs.Records.{recordIn, recordAt}
-use Rattle.records.proofs.Laws.{part-bytes, record-read}
+use Rattle.records.proofs.Laws.{value-within, record-read}
 use Rattle.replaying.specs.Replaying.{headOf, isStop, noneWrong}
 
 -- the head says kind, flag and the two zero bytes
@@ -52,7 +52,8 @@ module _ (r : Record) where
         rw (eq-eqb (r .b) 0 b, eq-eqb (r .c) 0 c, eq-eqb (r .d) 0 d)
         (rw (ne-eqb (headOf r) 260 (λ z. p (same ∙ z)), ne-eqb (headOf r) 516 (λ z. q (same ∙ z))))
 
-both-zero : (c d : ℕ) → eqb (c + d * 4294967296) 0 ≡ eqb c 0 && eqb d 0
+-- two numbers compared as one
+pub both-zero : (c d : ℕ) → eqb (c + d * 4294967296) 0 ≡ eqb c 0 && eqb d 0
 both-zero c d = go (eqb c 0) (eqb d 0) refl refl
   where
     go : (x y : Bool) → eqb c 0 ≡ x → eqb d 0 ≡ y → eqb (c + d * 4294967296) 0 ≡ x && y
@@ -78,6 +79,5 @@ module _ (area : List ℕ) (i : ℕ) (whole : length area ≡ areaLength) (bytes
 
   pub label-word : recordIn (recordAt area i) .a < 2 ^ 32
   label-word =
-      let at : ℕ = headerLength + recordLength * i + 4 in
       rw (record-read area (headerLength + recordLength * i) i refl room)
-      (rw (length-part at 4 area (omega arith)) at (value-range (part at 4 area) (part-bytes at 4 area bytes)))
+      (value-within (headerLength + recordLength * i + 4) 4 area bytes (omega arith))

@@ -5,4 +5,4 @@ pub mod Parts
 pub mod Answers
 pub mod Stops
 pub mod Turns
-pub mod Labels
+pub mod LotStreams

@@ -114,7 +114,7 @@ module _ (p : Plan) (area : List ℕ) where
       words
 
   -- the records that stand are those of their entries
-  pub stand-records : (i : ℕ) → length area ≡ areaLength → AreBytes area → i ≤ 128 → standTo p area i ≡ true
+  stand-records : (i : ℕ) → length area ≡ areaLength → AreBytes area → i ≤ 128 → standTo p area i ≡ true
       → recordsOf (entriesIn p (recordsIn area) i) ≡ take (recordLength * i) (recordsIn area)
   unfolding entriesIn figuresTo recordsIn recordAt entryIn entryOf recordIn recordsOf part
   stand-records zero l h room e = refl
@@ -224,7 +224,7 @@ records-of-area p es h =
     (take-all (recordLength * mostRecords) _ (simp (length-append, length-records, length-replicate) (omega arith)))
 
 -- the record of an entry that was accepted stands
-pub entry-stands : (p : Plan) (f : Figures) (i : ℕ) (e : Entry) → firstOf (entryRefusals p f i e) ≡ 0
+entry-stands : (p : Plan) (f : Figures) (i : ℕ) (e : Entry) → firstOf (entryRefusals p f i e) ≡ 0
     → T (allWords (entryArguments e)) → stands p f i (recordIn (recordOf e)) ≡ true
 unfolding stands accepts
 entry-stands p f i e h t = rw (formed-of e, entry-of-record p f i e h t, h)

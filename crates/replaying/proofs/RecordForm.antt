@@ -2,14 +2,13 @@
 use Prim.Native.Nat.{ℕ, _+_, _^_, _≤_, _<_}
 use mathlib.Core.Path.{_≡_, refl, sym, _∙_}
 use mathlib.Core.Bool.{Bool, true, false, cond, _&&_, _||_}
-use mathlib.Core.List.{List, [], _∷_}
+use mathlib.Core.List.{List}
 use native.Mathlib.Omega.{arith}
 use lib.Dec.{T, eqb}
 use lib.ListN.{length, getD}
 use lib.Seq.{take-all}
 use borrow.Author.Tests.{eqb-true}
 use Rattle.little.specs.Little.{bytes, value, part, AreBytes}
-use Rattle.little.proofs.Laws.{value-range, length-part}
 use Rattle.plans.proofs.Booleans.{either}
 use Rattle.rules.proofs.Counts.{sample-at-most}
 use Rattle.model.specs.declared.Plan.{Plan}
@@ -24,20 +23,17 @@ use Rattle.model.proofs.Booleans.{both-true, no-words, word-and}
 use Rattle.model.proofs.AreaReading.{entry-read}
 use Rattle.records.specs.declared.Record.{Record}
 use Rattle.records.specs.Records.{recordIn}
-use Rattle.records.proofs.Laws.{part-bytes, part-of-value, part-of-byte, part-join}
-use Rattle.replaying.specs.Replaying.{entryOf, wellFormed}
+use Rattle.records.proofs.Laws.{value-within, part-of-value, part-of-byte, part-join}
+use Rattle.replaying.specs.Replaying.{entryOf, oneNumber, NoMore, wellFormed}
+use Rattle.replaying.proofs.Answers.{no-more}
 
 -- the entry in a record's bytes is the one of its numbers
-pub entry-in : (p : Plan) (f : Figures) (r : List ℕ) → entryIn p f r ≡ entryOf p f (recordIn r)
+entry-in : (p : Plan) (f : Figures) (r : List ℕ) → entryIn p f r ≡ entryOf p f (recordIn r)
 unfolding entryIn entryOf recordIn
 entry-in p f r = refl
 
--- the number in a part of k bytes
-pub value-within : (at k : ℕ) (s : List ℕ) → AreBytes s → at + k ≤ length s → value (part at k s) < 256 ^ k
-value-within at k s h fits = rw (length-part at k s fits) at (value-range (part at k s) (part-bytes at k s h))
-
 -- a whole list as a part
-pub part-all : (k : ℕ) (s : List ℕ) → length s ≡ k → part 0 k s ≡ s
+part-all : (k : ℕ) (s : List ℕ) → length s ≡ k → part 0 k s ≡ s
 unfolding part
 part-all k s l = take-all k s (omega arith)
 
@@ -58,27 +54,6 @@ record-bytes r l h spare =
     let flag = part-join 1 1 18 _ _ r (part-of-byte 1 _ r (omega arith) refl) refl spares in
     sym (part-join 0 1 19 _ _ r (part-of-byte 0 _ r (omega arith) refl) refl flag) ∙ part-all 20 r l
 
--- what a well-formed record of another kind than a lot says
-record Plain (x : Record) : Type 0 where
-  kinds : eqb (x .kind) 2 || eqb (x .kind) 3 || eqb (x .kind) 4 ≡ true
-  noB : x .b ≡ 0
-  noC : x .c ≡ 0
-  noD : x .d ≡ 0
-
-plain : (x : Record)
-    → (eqb (x .kind) 2 || eqb (x .kind) 3 || eqb (x .kind) 4) && (eqb (x .b) 0 && eqb (x .c) 0 && eqb (x .d) 0) ≡ true
-    → Plain x
-plain x e =
-    let outer = both-true (eqb (x .kind) 2 || eqb (x .kind) 3 || eqb (x .kind) 4) _ e in
-    let inner = both-true (eqb (x .b) 0 && eqb (x .c) 0) (eqb (x .d) 0) (outer .1) in
-    let first = both-true (eqb (x .b) 0) (eqb (x .c) 0) (inner .0) in
-    record {
-      kinds = outer .0;
-      noB = eqb-true (x .b) 0 (first .0);
-      noC = eqb-true (x .c) 0 (first .1);
-      noD = eqb-true (x .d) 0 (inner .1);
-    }
-
 -- the entry of a well-formed record has that record's bytes
 entry-bytes : (p : Plan) (f : Figures) (x : Record) → wellFormed x ≡ true
     → recordOf (entryOf p f x) ≡ recordBytes (x .kind) (x .flag) (x .a) (x .b) (x .c) (x .d)
@@ -86,17 +61,23 @@ unfolding wellFormed entryOf recordOf
 entry-bytes p f x e = go (eqb (x .kind) 1) (eqb (x .kind) 2) (eqb (x .kind) 3) refl refl refl
   where
     form : cond (eqb (x .kind) 1) (eqb (x .flag) 0)
-        ((eqb (x .kind) 2 || eqb (x .kind) 3 || eqb (x .kind) 4) && (eqb (x .b) 0 && eqb (x .c) 0 && eqb (x .d) 0)) ≡ true
+        ((eqb (x .kind) 2 || eqb (x .kind) 3 || eqb (x .kind) 4) && oneNumber x) ≡ true
     form = both-true (eqb (x .spare) 0) _ e .1
+
+    -- of another kind than a lot
+    plain : eqb (x .kind) 1 ≡ false → (eqb (x .kind) 2 || eqb (x .kind) 3 || eqb (x .kind) 4 ≡ true) × NoMore x
+    plain i =
+        let both = both-true (eqb (x .kind) 2 || eqb (x .kind) 3 || eqb (x .kind) 4) (oneNumber x) (rw i at form) in
+        (both .0, no-more x (both .1))
 
     go : (one two three : Bool) → eqb (x .kind) 1 ≡ one → eqb (x .kind) 2 ≡ two → eqb (x .kind) 3 ≡ three
         → recordOf (entryOf p f x) ≡ recordBytes (x .kind) (x .flag) (x .a) (x .b) (x .c) (x .d)
     go true two three i j k = rw (entryOf, recordOf, i) (cc (eqb-true (x .kind) 1 i, eqb-true (x .flag) 0 (rw i at form)))
-    go false true three i j k = let y = plain x (rw i at form) in rw (entryOf, recordOf, i, j) (cc (eqb-true (x .kind) 2 j))
-    go false false true i j k = let y = plain x (rw i at form) in rw (entryOf, recordOf, i, j, k) (cc (eqb-true (x .kind) 3 k))
+    go false true three i j k = let y = plain i in rw (entryOf, recordOf, i, j) (cc (eqb-true (x .kind) 2 j))
+    go false false true i j k = let y = plain i in rw (entryOf, recordOf, i, j, k) (cc (eqb-true (x .kind) 3 k))
     go false false false i j k =
-        let y = plain x (rw i at form) in
-        rw (entryOf, recordOf, i, j, k) (cc (eqb-true (x .kind) 4 (rw (j, k) at (y .kinds))))
+        let y = plain i in
+        rw (entryOf, recordOf, i, j, k) (cc (eqb-true (x .kind) 4 (rw (j, k) at (y .0))))
 
 -- the spare bytes of a well-formed record are zero
 spare-zero : (x : Record) → wellFormed x ≡ true → x .spare ≡ 0

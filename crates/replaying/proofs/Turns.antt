@@ -1,45 +1,69 @@
--- One turn of the replay: what entering the next record says of all records up to it. Assumes nothing.
-use Prim.Native.Nat.{ℕ, suc, _+_, _≤_}
+-- One turn of a replay: `Ready` of the records that are left is what its loop keeps. Assumes nothing.
+use Prim.Native.Nat.{ℕ, suc, _+_, _≤_, _<_}
 use mathlib.Core.Path.{_≡_, refl, sym, ap, _∙_}
 use mathlib.Core.Bool.{true, false}
 use mathlib.Core.List.{List}
 use native.Mathlib.Numerals.{add-one}
 use native.Mathlib.Omega.{arith}
+use lib.Dec.{T}
+use Rattle.little.specs.Little.{AreBytes}
 use Rattle.model.specs.declared.Plan.{Plan}
 use Rattle.model.specs.declared.Figures.{Figures}
 use Rattle.model.specs.Figuring.{started, figuresOf}
+use Rattle.model.specs.Calls.{admissible}
 use Rattle.model.specs.Area.{entriesIn}
 use Rattle.model.proofs.Booleans.{never-both}
+use Rattle.model.specs.FigureBounds.{FiguresWithin}
 use Rattle.records.specs.Records.{recordIn, recordAt}
 use Rattle.replaying.specs.declared.Entered.{Entered}
-use Rattle.replaying.specs.Replaying.{entered, figuresTo, standTo, Replayed}
-use Rattle.replaying.proofs.Parts.{figures-next, stand-fails}
+use Rattle.replaying.specs.Replaying.{entered, recordsIn, figuresTo, standTo, Ready, Replayed}
+use Rattle.replaying.proofs.Parts.{figures-next, stand-fails, stand-admissible, figures-to-within}
 
-module _ (p : Plan) (area : List ℕ) (i : ℕ) (f : Figures) (step : Entered)
-    (before : standTo p area i ≡ true) (same : f ≡ figuresTo p area i)
-    (made : step ≡ entered p f i (recordIn (recordAt area i))) where
-  next-stands : step .sound ≡ standTo p area (suc i)
-  unfolding entered standTo
-  next-stands = ap (λ (e : Entered). e .sound) made ∙ rw (before, ← same)
+module _ (p : Plan) (area : List ℕ) (f : Figures) (i to : ℕ) (ready : Ready p area f i to) where
+  -- calls could have left the records before, so that the figures fit their bytes
+  module _ (bytes : AreBytes area) where
+    pub ready-admissible : T (admissible p (entriesIn p (recordsIn area) i))
+    ready-admissible = stand-admissible p area i (ready .whole) bytes (omega arith) (ready .stood)
 
-  next-figures : step .sound ≡ true → step .figures ≡ figuresTo p area (suc i)
-  unfolding entered
-  next-figures s =
-      ap (λ (e : Entered). e .figures) made
-      ∙ rw (sym (ap (λ (e : Entered). e .sound) made) ∙ s, figures-next p area i, ← same)
+    pub ready-within : FiguresWithin i f
+    ready-within = rw (ready .brought) (figures-to-within p area i (ready .whole) bytes (omega arith) (ready .stood) (ready .valid))
 
-  -- the record stands: on to the next
-  pub turn-taken : step .sound ≡ true → (standTo p area (i + 1) ≡ true) × (step .figures ≡ figuresTo p area (i + 1))
-  turn-taken s = rw (add-one i) (sym next-stands ∙ s, next-figures s)
+  module _ (more : i < to) (step : Entered) (made : step ≡ entered p f i (recordIn (recordAt area i))) where
+    next-stands : step .sound ≡ standTo p area (suc i)
+    unfolding entered standTo
+    next-stands = ap (λ (e : Entered). e .sound) made ∙ rw (ready .stood, ← ready .brought)
 
-  -- it does not: nor do all
-  pub turn-failed : (count : ℕ) → i + 1 ≤ count → step .sound ≡ false → Replayed p area count step
-  turn-failed count most s =
-      let fails : standTo p area count ≡ false = stand-fails p area (suc i) count (omega arith) (sym next-stands ∙ s) in
-      record {
-        allStand = s ∙ sym fails;
-        figuresAfter = λ t. absurd (never-both (step .sound) t s);
-      }
+    next-figures : step .sound ≡ true → step .figures ≡ figuresTo p area (suc i)
+    unfolding entered
+    next-figures s =
+        ap (λ (e : Entered). e .figures) made
+        ∙ rw (sym (ap (λ (e : Entered). e .sound) made) ∙ s, figures-next p area i, ← ready .brought)
+
+    -- the record stands: on to the next
+    pub turn-taken : step .sound ≡ true → Ready p area (step .figures) (i + 1) to
+    turn-taken s =
+        record {
+          whole = ready .whole;
+          valid = ready .valid;
+          inOrder = omega arith;
+          room = ready .room;
+          stood = rw (add-one i) (sym next-stands ∙ s);
+          brought = rw (add-one i) (next-figures s);
+        }
+
+    -- it does not: nor do all, and of the figures nothing is said
+    pub turn-failed : step .sound ≡ false → (any : Figures) → Replayed p area to (record { sound = false; figures = any })
+    turn-failed s any =
+        record {
+          allStand = sym (stand-fails p area (suc i) to (omega arith) (sym next-stands ∙ s));
+          figuresAfter = λ t. absurd (never-both false t refl);
+        }
+
+  -- none is left
+  pub turns-over : to ≤ i → Replayed p area to (record { sound = true; figures = f })
+  turns-over over =
+      let all : i ≡ to = omega arith in
+      record { allStand = sym (rw all at (ready .stood)); figuresAfter = λ _. rw all at (ready .brought) }
 
 -- before the first record
 pub stand-none : (p : Plan) (area : List ℕ) → standTo p area 0 ≡ true

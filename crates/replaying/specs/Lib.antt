@@ -1,2 +1,3 @@
 -- Reading an area record after record.
 pub mod Replaying
+pub mod LotStreams

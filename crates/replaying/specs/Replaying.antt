@@ -26,12 +26,22 @@ entryOf p f r =
     (cond (eqb (r .kind) 2) (Run (r .a) (r .flag))
     (cond (eqb (r .kind) 3) (Block (r .a) (r .flag)) (Stop (r .flag) (r .a))))
 
+-- a record without a second, third or fourth number
+abbrev pub oneNumber : Record → Bool
+oneNumber r = eqb (r .b) 0 && eqb (r .c) 0 && eqb (r .d) 0
+
+-- and what that test says
+pub record NoMore (r : Record) : Type 0 where
+  pub noSecond : r .b ≡ 0
+  pub noThird : r .c ≡ 0
+  pub noFourth : r .d ≡ 0
+
 -- a record of a kind that exists, with zeros wherever its kind has nothing to say
 unfoldable pub wellFormed : Record → Bool
 wellFormed r =
     eqb (r .spare) 0
     && cond (eqb (r .kind) 1) (eqb (r .flag) 0)
-    ((eqb (r .kind) 2 || eqb (r .kind) 3 || eqb (r .kind) 4) && (eqb (r .b) 0 && eqb (r .c) 0 && eqb (r .d) 0))
+    ((eqb (r .kind) 2 || eqb (r .kind) 3 || eqb (r .kind) 4) && oneNumber r)
 
 -- the first four bytes of a record as one number
 unfoldable pub headOf : Record → ℕ
@@ -39,27 +49,23 @@ headOf r = r .kind + r .flag * 256 + r .spare * 65536
 
 -- a record of a stop whose arguments no stream refuses: a pause of up to 255 days, or another set-up
 unfoldable pub isStop : Record → Bool
-isStop r =
-    (eqb (r .b) 0 && eqb (r .c) 0 && eqb (r .d) 0)
-    && cond (eqb (headOf r) 260) (leb (r .a) 255) (eqb (headOf r) 516 && eqb (r .a) 0)
+isStop r = oneNumber r && cond (eqb (headOf r) 260) (leb (r .a) 255) (eqb (headOf r) 516 && eqb (r .a) 0)
 
 -- a lot's record with nothing wrong in the sample, nor in all that was heard
 unfoldable pub noneWrong : Record → Bool
 noneWrong r = eqb (r .c) 0 && eqb (r .d) 0
 
--- a record without a second, third or fourth number
-pub record NoMore (r : Record) : Type 0 where
-  pub noSecond : r .b ≡ 0
-  pub noThird : r .c ≡ 0
-  pub noFourth : r .d ≡ 0
-
 -- a record that some accepted call could have left as the i-th, after figures f
 unfoldable pub stands : Plan → Figures → ℕ → Record → Bool
 stands p f i r = wellFormed r && accepts p f i (entryOf p f r)
 
+-- where the test holds the figures are those after, and else those before
+abbrev pub enteredIf : Bool → Figures → Figures → Entered
+enteredIf test after before = record { sound = test; figures = cond test after before }
+
 -- what entering a record gives: whether it stands, and the figures after it
 unfoldable pub entered : Plan → Figures → ℕ → Record → Entered
-entered p f i r = record { sound = stands p f i r; figures = cond (stands p f i r) (stepped p (entryOf p f r) f) f }
+entered p f i r = enteredIf (stands p f i r) (stepped p (entryOf p f r) f) f
 
 -- a record that stands brings other figures; one that cannot leaves them
 unfoldable pub soundAt : Figures → Entered

@@ -17,10 +17,8 @@ nothing-requires c κs = search needs
 
 returns : tie.Need-returns
 returns c =
-    let area = c .before .before .before .before .before .args .area .now in
-    let newest = c .before .before .before .before .before .args .newest in
-    let test = c .before .is-zero-from in
-    c .nothing .ensures ∙ says-unopened newest area (test .result) (c .before .before .before .before .before .pre) (c .before .before .if1 .taken) (test .ensures)
+    let tested = c .before .before in
+    c .nothing .ensures ∙ says-unopened _ _ _ (tested .before .before .before .pre) (tested .if1 .taken) (c .before .is-zero-from .ensures)
 
 get-plan-requires : tie.Need-get-plan-requires
 get-plan-requires c κs = search needs
@@ -33,12 +31,10 @@ nothing-requires-2 c κs = search needs
 
 returns-2 : tie.Need-returns-2
 returns-2 c =
-    let area = c .before .before .before .before .before .before .before .args .area .now in
-    let newest = c .before .before .before .before .before .before .before .args .newest in
     let test = c .before .before .is-valid in
+    let read = c .before .before .before in
     c .nothing2 .ensures
-    ∙ says-invalid newest area (c .before .before .before .before .if1 .left) (c .before .before .before .get-plan .result) (test .result) (c .before .before .before .get-plan .ensures)
-    (test .ensures) (not-true (test .result) (c .before .if2 .taken))
+    ∙ says-invalid _ _ (read .before .if1 .left) _ _ (read .get-plan .ensures) (test .ensures) (not-true (test .result) (c .before .if2 .taken))
 
 get-count-requires : tie.Need-get-count-requires
 get-count-requires c κs = search needs
@@ -48,10 +44,8 @@ nothing-requires-3 c κs = search needs
 
 returns-3 : tie.Need-returns-3
 returns-3 c =
-    let area = c .before .before .before .before .before .before .before .before .before .args .area .now in
-    let newest = c .before .before .before .before .before .before .before .before .before .args .newest in
     c .nothing3 .ensures
-    ∙ says-crowded newest area (c .before .before .before .before .before .before .if1 .left) (c .before .before .get-count .result) (c .before .before .get-count .ensures .0)
+    ∙ says-crowded _ _ (c .before .before .before .before .before .before .if1 .left) _ (c .before .before .get-count .ensures .0)
     (c .before .if3 .taken)
 
 read-records-requires : tie.Need-read-records-requires

@@ -1,61 +1,55 @@
-use Rattle.replay_continuous.proofs.Turning.{figures-start, ready-starts, turn-known, turn-on, turn-off}
-use Prim.Native.Nat.{_≤_, _-_}
-use mathlib.Core.Path.{_≡_, sym, _∙_}
-use mathlib.Core.Bool.{true}
+use Prim.Native.Nat.{_-_}
 use native.Mathlib.Omega.{arith}
 use borrow.Author.Needs.{needs}
 use borrow.Author.Tests.{not-true, not-false}
-use Rattle.little.specs.Little.{AreBytes}
-use Rattle.replaying.specs.Replaying.{standTo, figuresTo}
+use Rattle.replaying.specs.Replaying.{Ready}
+use Rattle.replaying.proofs.Turns.{turns-over}
 use Rattle.replay_continuous.specs.Places.{figuresAt, Placed}
+use Rattle.replay_continuous.proofs.Turning.{figures-start, ready-starts, turn-known, turn-on, turn-off}
 use Rattle.replay_continuous.proofs.replay.Statement.{statement}
 use Rattle.replay_continuous.proofs.replay.Tie as tie
 
 abbrev Inv-loop : tie.InvT-loop
 Inv-loop area plan figures from to left₀ tail₀ accepted₀ i₀ left tail accepted i =
-    (i ≤ to)
-    × (standTo plan area i ≡ true)
-    × (figuresAt (plan .a) figures left tail accepted ≡ figuresTo plan area i)
-    × Placed plan left tail
+    Ready plan area (figuresAt (plan .a) figures left tail accepted) i to × Placed plan left tail
 
 abbrev μ-loop : tie.MeasureT-loop
 μ-loop area plan figures from to left₀ tail₀ accepted₀ i₀ left tail accepted i = to - i
 
 left-of-requires : tie.Need-left-of-requires Inv-loop μ-loop
 left-of-requires c κs =
-    let start = c .before .before in let p = start .args .plan in let area = start .args .area .now in let f = start .args .figures in let from = start .args .from in let to = start .args .to in
-    let bytes : AreBytes area = λ k. c .before .shared-slice-known .given k .fits in
-    ready-starts p area f from to (start .pre .0) (start .pre .1) bytes .counts
+    let start = c .before .before in
+    ready-starts _ _ _ _ _ (start .pre .0) (start .pre .1) (λ k. c .before .shared-slice-known .given k .fits) .counts
 
 cast-tail : tie.Need-cast-tail Inv-loop μ-loop
 cast-tail c = search needs
 
 loop-holds : tie.Need-loop-holds Inv-loop μ-loop
 loop-holds c =
-    let start = c .before .before .before .before in let p = start .args .plan in let area = start .args .area .now in let f = start .args .figures in let from = start .args .from in let to = start .args .to in
-    let bytes : AreBytes area = λ k. c .before .before .before .shared-slice-known .given k .fits in
-    let ready = start .pre .0 in
-    let x = ready-starts p area f from to ready (start .pre .1) bytes in
-    rw (c .before .left-of .ensures) (ready .inOrder, ready .stood, figures-start p f x ∙ ready .brought, x .placed)
+    let start = c .before .before .before .before in
+    let x = ready-starts _ _ _ _ _ (start .pre .0) (start .pre .1) (λ k. c .before .before .before .shared-slice-known .given k .fits) in
+    rw (c .before .left-of .ensures, figures-start (start .args .plan) (start .args .figures) x) (start .pre .0, x .placed)
 
 get-record-requires : tie.Need-get-record-requires Inv-loop μ-loop
 get-record-requires c κs = search needs
 
 enter-requires : tie.Need-enter-requires Inv-loop μ-loop
 enter-requires c κs =
-    let start = c .before .before .before .before .before .before .before in let p = start .args .plan in let area = start .args .area .now in let f = start .args .figures in let from = start .args .from in let to = start .args .to in
-    let bytes : AreBytes area = λ k. c .before .before .before .before .before .before .shared-slice-known .given k .fits in
+    let known = c .before .before .before .before .before .before in
     let turn = c .before .before .loop in
-    turn-known p area f from to (start .pre .0) (start .pre .1) (turn .i) (turn .left) (turn .tail) (turn .accepted) (omega arith) (turn .inv .1) (turn .inv .2) bytes (turn .inv .3)
+    turn-known _ _ _ _ _ (known .before .pre .0) (known .before .pre .1) _ _ _ _ (turn .inv .0) (omega arith)
+    (λ k. known .shared-slice-known .given k .fits) (turn .inv .1)
 
 started-requires : tie.Need-started-requires Inv-loop μ-loop
 started-requires c κs = tt
 
 returns : tie.Need-returns Inv-loop μ-loop
 returns c =
-    let start = c .before .before .before .before .before .before .before .before .before .before .before in let p = start .args .plan in let area = start .args .area .now in let f = start .args .figures in let from = start .args .from in let to = start .args .to in
-    let turn = c .before .before .before .before .before .before .loop in
-    turn-off p area f from to (start .pre .0) (start .pre .1) (turn .i) (turn .left) (turn .tail) (turn .accepted) (omega arith) (turn .inv .1) (turn .inv .2) (c .before .before .before .before .get-record .result) (c .before .before .before .before .get-record .ensures) (c .before .before .before .enter .result) (c .before .before .before .enter .ensures) (not-true _ (c .before .if1 .taken)) _
+    let entered = c .before .before .before in
+    let read = entered .before in
+    let start = read .before .before .before .before .before .before .before in
+    turn-off _ _ _ _ _ (start .pre .0) (start .pre .1) _ _ _ _ (read .before .before .loop .inv .0) (omega arith) _ (read .get-record .ensures) _
+    (entered .enter .ensures) (not-true _ (c .before .if1 .taken)) _
 
 add-i : tie.Need-add-i Inv-loop μ-loop
 add-i c = search needs
@@ -65,21 +59,21 @@ loop-less c = omega arith
 
 loop-again : tie.Need-loop-again Inv-loop μ-loop
 loop-again c =
-    let start = c .before .before .before .before .before .before .before .before .before .before in let p = start .args .plan in let area = start .args .area .now in let f = start .args .figures in let from = start .args .from in let to = start .args .to in
-    let turn = c .before .before .before .before .before .loop in
-    let next = turn-on p area f from to (start .pre .0) (start .pre .1) (turn .i) (turn .left) (turn .tail) (turn .accepted) (omega arith) (turn .inv .1) (turn .inv .2) (c .before .before .before .get-record .result) (c .before .before .before .get-record .ensures) (c .before .before .enter .result) (c .before .before .enter .ensures) (not-false _ (c .if1 .left)) in
-    (omega arith, next .0, next .1, c .before .before .enter .ensures .placed)
+    let entered = c .before .before in
+    let read = entered .before in
+    let start = read .before .before .before .before .before .before .before in
+    let next =
+    turn-on _ _ _ _ _ (start .pre .0) (start .pre .1) _ _ _ _ (read .before .before .loop .inv .0) (omega arith) _ (read .get-record .ensures) _
+    (entered .enter .ensures) (not-false _ (c .if1 .left)) in
+    (next, entered .enter .ensures .placed)
 
 figures-at-requires : tie.Need-figures-at-requires Inv-loop μ-loop
-figures-at-requires c κs =
-    let turn = c .before .loop in (turn .inv .3 .least, turn .inv .3 .short)
+figures-at-requires c κs = let placed = c .before .loop .inv .1 in (placed .least, placed .short)
 
 returns-2 : tie.Need-returns-2 Inv-loop μ-loop
 returns-2 c =
-    let start = c .before .before .before .before .before .before .before in let p = start .args .plan in let area = start .args .area .now in let f = start .args .figures in let from = start .args .from in let to = start .args .to in
     let turn = c .before .before .loop in
-    let all : turn .i ≡ to = omega arith in
-    record { allStand = sym (rw all at (turn .inv .1)); figuresAfter = λ _. c .figures-at .ensures ∙ rw all at (turn .inv .2) }
+    rw (c .figures-at .ensures) (turns-over _ _ _ _ _ (turn .inv .0) (omega arith))
 
 pub replay-spec : {M : Type 1} → statement M
 replay-spec =

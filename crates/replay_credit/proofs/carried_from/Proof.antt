@@ -1,3 +1,4 @@
+use Rattle.replaying.specs.LotStreams.{newestOf}
 use Rattle.replay_credit.specs.Carrying.{carriedFrom}
 use borrow.Author.Needs.{needs}
 use Rattle.replay_credit.proofs.carried_from.Statement.{statement}
@@ -7,11 +8,11 @@ cast-t7 : tie.Need-cast-t7
 cast-t7 c = search needs
 
 returns : tie.Need-returns
-unfolding carriedFrom
+unfolding carriedFrom newestOf
 returns c = rw (c .if1 .taken)
 
 returns-2 : tie.Need-returns-2
-unfolding carriedFrom
+unfolding carriedFrom newestOf
 returns-2 c = rw (c .if1 .left)
 
 pub carried-from-spec : {M : Type 1} → statement M

@@ -1,12 +1,14 @@
 use Rattle.replaying.specs.Replaying.{noneWrong}
+use Rattle.replaying.specs.LotStreams.{mayFollow}
+use Rattle.replaying.proofs.LotStreams.{size-in-range}
 use mathlib.Core.Path.{_≡_, sym, ap, _∙_}
 use mathlib.Core.Bool.{true}
 use native.Mathlib.Omega.{arith}
 use borrow.Author.Needs.{needs}
 use borrow.Author.Tests.{not-true, not-false}
 use Rattle.records.specs.Records.{recordIn, recordAt}
-use Rattle.replay_credit.specs.Carrying.{mayFollow, lotStep, stepOf}
-use Rattle.replay_credit.proofs.Lots.{size-in-range, lot-step, stop-step, not-following, good-lot}
+use Rattle.replay_credit.specs.Carrying.{lotStep, stepOf}
+use Rattle.replay_credit.proofs.Lots.{lot-step, stop-step, not-following, good-lot}
 use Rattle.replay_credit.proofs.enter.Statement.{statement}
 use Rattle.replay_credit.proofs.enter.Tie as tie
 
@@ -35,7 +37,7 @@ of-lot : (c : tie.After-get-record)
 of-lot c = ap (lotStep _ _) (c .get-record .ensures) ∙ lot-step _ _ _ (sym (c .before .before .head-at .ensures) ∙ c .before .if1 .left)
 
 follows : (c : tie.Else2)
-    → mayFollow (c .before .before .before .before .before .before .args .carried) (c .before .before .get-record .result) ≡ true
+    → mayFollow 1 (c .before .before .before .before .before .before .args .carried .newest) (c .before .before .get-record .result) ≡ true
 follows c = sym (c .before .may-follow .ensures) ∙ not-false (c .before .may-follow .result) (c .if2 .left)
 
 returns-2 : tie.Need-returns-2
@@ -64,7 +66,7 @@ add-t6 : tie.Need-add-t6
 add-t6 c =
     let tested = c .before .before .before in
     let start = tested .before .before .before .before .before .before .before in
-    let size = size-in-range (start .args .plan) (start .args .carried) (tested .before .before .before .get-record .result) (follows (tested .before)) in
+    let size = size-in-range 1 (start .args .carried .newest) (tested .before .before .before .get-record .result) (follows (tested .before)) in
     omega arith
 
 cast-t9 : tie.Need-cast-t9

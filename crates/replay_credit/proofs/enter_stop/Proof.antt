@@ -1,4 +1,4 @@
-use Rattle.replay_credit.specs.Carrying.{stepIf}
+use Rattle.replay_credit.specs.Carrying.{stopStep}
 use borrow.Author.Needs.{needs}
 use Rattle.replay_credit.proofs.enter_stop.Statement.{statement}
 use Rattle.replay_credit.proofs.enter_stop.Tie as tie
@@ -13,11 +13,11 @@ is-stop-requires : tie.Need-is-stop-requires
 is-stop-requires c κs = search needs
 
 returns : tie.Need-returns
-unfolding stepIf
+unfolding stopStep
 returns c = rw (← c .before .before .before .get-record .ensures, ← c .before .is-stop .ensures, c .if1 .taken)
 
 returns-2 : tie.Need-returns-2
-unfolding stepIf
+unfolding stopStep
 returns-2 c = rw (← c .before .before .before .get-record .ensures, ← c .before .is-stop .ensures, c .if1 .left)
 
 pub enter-stop-spec : {M : Type 1} → statement M

@@ -3,10 +3,10 @@ use native.Mathlib.Omega.{arith}
 use borrow.Author.Needs.{needs}
 use borrow.Author.Tests.{not-true, not-false}
 use Rattle.model.specs.Stations.{hasOption}
+use Rattle.replaying.proofs.LotStreams.{size-in-range}
 use Rattle.replay_credit.specs.declared.Step.the-variants.{Stands}
 use Rattle.replay_credit.specs.Carrying.{verdictIn}
 use Rattle.replay_credit.proofs.Lots.{
-  size-in-range,
   counts-unfit,
   missed,
   past-sample,
@@ -24,7 +24,7 @@ returns c = let start = c .before .before in counts-unfit _ _ _ (missed _ _ _ (c
 sample-requires : tie.Need-sample-requires
 sample-requires c κs =
     let start = c .before .before in
-    let size = size-in-range (start .args .plan) (start .args .carried) (start .args .read) (start .pre .1) in
+    let size = size-in-range 1 (start .args .carried .newest) (start .args .read) (start .pre .1) in
     omega arith
 
 returns-2 : tie.Need-returns-2
@@ -36,7 +36,7 @@ verdict-requires c κs = search needs
 is-by-verdict-requires : tie.Need-is-by-verdict-requires
 is-by-verdict-requires c κs =
     let start = c .before .before .before .before .before .before .before in
-    let size = size-in-range (start .args .plan) (start .args .carried) (start .args .read) (start .pre .1) in
+    let size = size-in-range 1 (start .args .carried .newest) (start .args .read) (start .pre .1) in
     omega arith
 
 judged : (c : tie.After-verdict)

@@ -1,4 +1,5 @@
 use Rattle.model.specs.Figuring.{noLevel}
+use Rattle.replaying.specs.LotStreams.{lotFigures}
 use Rattle.replay_credit.specs.Carrying.{figuresIn}
 use borrow.Author.Needs.{needs}
 use Rattle.replay_credit.proofs.figures_of.Statement.{statement}
@@ -11,7 +12,7 @@ cast-t7 : tie.Need-cast-t7
 cast-t7 c = search needs
 
 returns : tie.Need-returns
-unfolding figuresIn noLevel
+unfolding figuresIn lotFigures noLevel
 returns c = rw (c .before .before .screen .ensures)
 
 pub figures-of-spec : {M : Type 1} → statement M

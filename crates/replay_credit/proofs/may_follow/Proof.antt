@@ -1,5 +1,5 @@
 use borrow.Author.Tests.{eq-eqb, ne-eqb}
-use Rattle.replay_credit.specs.Carrying.{mayFollow}
+use Rattle.replaying.specs.LotStreams.{mayFollow}
 use borrow.Author.Needs.{needs}
 use Rattle.replay_credit.proofs.may_follow.Statement.{statement}
 use Rattle.replay_credit.proofs.may_follow.Tie as tie

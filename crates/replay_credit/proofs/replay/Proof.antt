@@ -1,18 +1,17 @@
-use Prim.Native.Nat.{_≤_, _-_}
-use mathlib.Core.Path.{_≡_, sym, _∙_}
-use mathlib.Core.Bool.{true}
+use Prim.Native.Nat.{_-_}
+use mathlib.Core.Path.{sym, _∙_}
 use native.Mathlib.Omega.{arith}
 use borrow.Author.Needs.{needs}
 use Rattle.little.specs.Little.{AreBytes}
-use Rattle.replaying.specs.Replaying.{standTo, figuresTo}
+use Rattle.replaying.specs.Replaying.{Ready}
+use Rattle.replaying.proofs.Turns.{turns-over}
 use Rattle.replay_credit.specs.Carrying.{figuresIn}
-use Rattle.replay_credit.proofs.Turning.{figures-kept, bounded, turned, stopped}
+use Rattle.replay_credit.proofs.Turning.{ready-numbers, bounded, turned, stopped}
 use Rattle.replay_credit.proofs.replay.Statement.{statement}
 use Rattle.replay_credit.proofs.replay.Tie as tie
 
 abbrev Inv-loop : tie.InvT-loop
-Inv-loop area plan from to carried₀ i₀ carried i =
-    (i ≤ to) × (standTo plan area i ≡ true) × (figuresIn carried ≡ figuresTo plan area i)
+Inv-loop area plan from to carried₀ i₀ carried i = Ready plan area (figuresIn carried) i to
 
 abbrev μ-loop : tie.MeasureT-loop
 μ-loop area plan from to carried₀ i₀ carried i = to - i
@@ -26,22 +25,15 @@ bytes-of c = λ k. c .before .shared-slice-known .given k .fits
 loop-holds : tie.Need-loop-holds Inv-loop μ-loop
 loop-holds c =
     let start = c .before .before in
-    let ready = start .pre .0 in (
-      ready .inOrder,
-      ready .stood,
-      rw (c .carried-from .ensures, ready .brought)
-          (figures-kept _ (start .pre .1) (ready .valid) _ (ready .whole) (bytes-of c) _ (omega arith) (ready .stood)),
-    )
+    rw (c .carried-from .ensures) (ready-numbers _ (start .pre .1) _ (bytes-of c) _ _ _ (start .pre .0))
 
 enter-requires : tie.Need-enter-requires Inv-loop μ-loop
 enter-requires c κs =
     let start = c .before .before .before .before in
-    let ready = start .pre .0 in
     let turn = c .before .loop in (
-      ready .whole,
+      turn .inv .whole,
       omega arith,
-      bounded _ (start .pre .1) (ready .valid) _ (ready .whole) (bytes-of (c .before .before)) (turn .carried) (turn .i) (omega arith)
-          (turn .inv .1) (turn .inv .2),
+      bounded _ (start .pre .1) _ (bytes-of (c .before .before)) (turn .carried) _ _ (turn .inv) (omega arith),
     )
 
 enum-known-next : tie.Need-enum-known-next Inv-loop μ-loop
@@ -58,11 +50,9 @@ returns c =
     let made = c .before .before .before in
     let turn = made .before .before .loop in
     let start = made .before .before .before .before .before in
-    let ready = start .pre .0 in
     rw (c .figures-of .ensures)
-    (stopped _ (start .pre .1) (ready .valid) _ (ready .whole) (bytes-of (made .before .before .before)) (turn .carried) (turn .i) (omega arith)
-    (turn .inv .1) (turn .inv .2)
-    (sym (c .before .enum-told .given .1) ∙ made .enter .ensures) _ (omega arith))
+    (stopped _ (start .pre .1) _ (bytes-of (made .before .before .before)) (turn .carried) _ _ (turn .inv) (omega arith)
+    (sym (c .before .enum-told .given .1) ∙ made .enter .ensures))
 
 add-i : tie.Need-add-i Inv-loop μ-loop
 add-i c = search needs
@@ -75,11 +65,8 @@ loop-again c =
     let made = c .before .before .before in
     let turn = made .before .before .loop in
     let start = made .before .before .before .before .before in
-    let ready = start .pre .0 in
-    let next =
-    turned _ (start .pre .1) (ready .valid) _ (ready .whole) (bytes-of (made .before .before .before)) (turn .carried) (turn .i) (omega arith)
-    (turn .inv .1) (turn .inv .2) _ (sym (c .before .next .given .1) ∙ made .enter .ensures) in
-    (omega arith, next .0, next .1)
+    turned _ (start .pre .1) _ (bytes-of (made .before .before .before)) (turn .carried) _ _ (turn .inv) (omega arith) _
+    (sym (c .before .next .given .1) ∙ made .enter .ensures)
 
 figures-of-requires-2 : tie.Need-figures-of-requires-2 Inv-loop μ-loop
 figures-of-requires-2 c κs = search needs
@@ -87,12 +74,7 @@ figures-of-requires-2 c κs = search needs
 returns-2 : tie.Need-returns-2 Inv-loop μ-loop
 returns-2 c =
     let turn = c .before .before .loop in
-    let start = c .before .before .before .before .before in
-    let all : turn .i ≡ start .args .to = omega arith in
-    record {
-      allStand = sym (rw all at (turn .inv .1));
-      figuresAfter = λ _. c .figures-of2 .ensures ∙ rw all at (turn .inv .2);
-    }
+    rw (c .figures-of2 .ensures) (turns-over _ _ _ _ _ (turn .inv) (omega arith))
 
 pub replay-spec : {M : Type 1} → statement M
 replay-spec =

@@ -1,12 +1,14 @@
 use Rattle.replaying.specs.Replaying.{noneWrong}
+use Rattle.replaying.specs.LotStreams.{mayFollow}
+use Rattle.replaying.proofs.LotStreams.{size-in-range}
 use mathlib.Core.Path.{_≡_, sym, ap, _∙_}
 use mathlib.Core.Bool.{true}
 use native.Mathlib.Omega.{arith}
 use Rattle.model.specs.Stations.{hasOption}
 use borrow.Author.Tests.{not-true, not-false}
 use Rattle.records.specs.Records.{recordIn, recordAt}
-use Rattle.replay_level.specs.Carrying.{mayFollow, lotStep, stepOf}
-use Rattle.replay_level.proofs.Lots.{size-in-range, ended-step, lot-step, stop-step, not-following, good-lot}
+use Rattle.replay_level.specs.Carrying.{lotStep, stepOf}
+use Rattle.replay_level.proofs.Lots.{ended-step, lot-step, stop-step, not-following, good-lot}
 use borrow.Author.Needs.{needs}
 use Rattle.replay_level.proofs.enter.Statement.{statement}
 use Rattle.replay_level.proofs.enter.Tie as tie
@@ -45,7 +47,7 @@ of-lot c =
     ∙ lot-step _ _ _ (c .before .before .before .if1 .left) (sym (c .before .before .head-at .ensures) ∙ c .before .if2 .left)
 
 follows : (c : tie.Else3)
-    → mayFollow (c .before .before .before .before .before .before .before .before .before .args .carried)
+    → mayFollow 2 (c .before .before .before .before .before .before .before .before .before .args .carried .newest)
     (c .before .before .get-record .result) ≡ true
 follows c = sym (c .before .may-follow .ensures) ∙ not-false (c .before .may-follow .result) (c .if3 .left)
 
@@ -82,7 +84,7 @@ add-t12 c =
     let followed = c .before .before .before .before .before .before in
     let read = followed .before .before in
     let start = read .before .before .before .before .before .before .before in
-    let size = size-in-range (start .args .plan) (start .args .carried) (read .get-record .result) (follows followed) in
+    let size = size-in-range 2 (start .args .carried .newest) (read .get-record .result) (follows followed) in
     omega (arith, start .pre .2 .acceptedIn)
 
 cast-t13 : tie.Need-cast-t13

@@ -1,5 +1,5 @@
 use borrow.Author.Tests.{not-true, not-false}
-use Rattle.replay_level.specs.Carrying.{stepIf, afterStop}
+use Rattle.replay_level.specs.Carrying.{afterStop, stopStep}
 use borrow.Author.Needs.{needs}
 use Rattle.replay_level.proofs.enter_stop.Statement.{statement}
 use Rattle.replay_level.proofs.enter_stop.Tie as tie
@@ -14,7 +14,7 @@ is-stop-requires : tie.Need-is-stop-requires
 is-stop-requires c κs = search needs
 
 returns : tie.Need-returns
-unfolding stepIf
+unfolding stopStep
 returns c = rw (← c .before .before .before .get-record .ensures, ← c .before .is-stop .ensures, not-true (c .before .is-stop .result) (c .if1 .taken))
 
 cast-meet-stop : tie.Need-cast-meet-stop
@@ -24,7 +24,7 @@ meet-stop-requires : tie.Need-meet-stop-requires
 meet-stop-requires c κs = search needs
 
 returns-2 : tie.Need-returns-2
-unfolding stepIf afterStop
+unfolding stopStep afterStop
 returns-2 c =
     let tested = c .before .before .before .before in
     rw (

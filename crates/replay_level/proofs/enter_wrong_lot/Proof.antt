@@ -1,7 +1,8 @@
-use mathlib.Core.Path.{_≡_, sym, ap, _∙_}
+use mathlib.Core.Path.{sym, _∙_}
 use native.Mathlib.Omega.{arith}
 use Rattle.model.specs.Stations.{hasOption}
-use Rattle.replay_level.proofs.Lots.{size-in-range, unfit, wrong-lot}
+use Rattle.replaying.proofs.LotStreams.{size-in-range}
+use Rattle.replay_level.proofs.Lots.{unfit, wrong-lot}
 use borrow.Author.Needs.{needs}
 use Rattle.replay_level.proofs.enter_wrong_lot.Statement.{statement}
 use Rattle.replay_level.proofs.enter_wrong_lot.Tie as tie
@@ -9,7 +10,7 @@ use Rattle.replay_level.proofs.enter_wrong_lot.Tie as tie
 fits-sample-requires : tie.Need-fits-sample-requires
 fits-sample-requires c κs =
     let start = c .before in
-    let size = size-in-range (start .args .plan) (start .args .carried) (start .args .read) (start .pre .1) in
+    let size = size-in-range 2 (start .args .carried .newest) (start .args .read) (start .pre .1) in
     omega arith
 
 judge-requires : tie.Need-judge-requires

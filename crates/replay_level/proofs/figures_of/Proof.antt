@@ -1,3 +1,4 @@
+use Rattle.replaying.specs.LotStreams.{lotFigures}
 use Rattle.replay_level.specs.Carrying.{figuresIn}
 use borrow.Author.Needs.{needs}
 use Rattle.replay_level.proofs.figures_of.Statement.{statement}
@@ -10,7 +11,7 @@ cast-t7 : tie.Need-cast-t7
 cast-t7 c = search needs
 
 returns : tie.Need-returns
-unfolding figuresIn
+unfolding figuresIn lotFigures
 returns c = rw (c .before .before .screen .ensures)
 
 pub figures-of-spec : {M : Type 1} → statement M

@@ -1,4 +1,3 @@
-use mathlib.Core.Path.{_≡_, refl}
 use borrow.Author.Tests.{eq-eqb}
 use Rattle.replay_level.specs.Carrying.{fitsSample}
 use Rattle.replay_level.proofs.Lots.{counts-differ, few-wrong}
