@@ -56,7 +56,7 @@ pub fn put_record(area: &mut [u8], i: usize, kind: u8, flag: u8, a: u32, b: u32,
     ensures { λ _. ⌜ now (area .exit) ≡ written (headerLength + recordLength * i) (recordBytes kind flag a b c d) (now (area .entry)) ⌝ }
 {
     let at = HEADER_LENGTH + RECORD_LENGTH * i;
-    put_marks(area, at, kind, flag);
+    put_kind(area, at, kind, flag);
     little::put_u32(area, at + 4, a);
     little::put_u32(area, at + 8, b);
     little::put_u32(area, at + 12, c);
@@ -97,7 +97,7 @@ pub fn put_plan(area: &mut [u8], plan: Plan)
     requires { ⌜ (length (now area) ≡ areaLength) × (plan .kind < 256) × (plan .option < 256) × (plan .b < 65536) ⌝ }
     ensures { λ _. ⌜ now (area .exit) ≡ written 0 (planBytes plan 0) (now (area .entry)) ⌝ }
 {
-    put_marks(area, 0, plan.kind as u8, plan.option as u8);
+    put_kind(area, 0, plan.kind as u8, plan.option as u8);
     little::put_u32(area, 4, plan.a);
     little::put_u16(area, 8, plan.b as u16);
     little::put_u16(area, 10, 0);
@@ -188,13 +188,14 @@ fn is_zero_in(area: &[u8], from: usize, to: usize) -> bool
     most == 0
 }
 
-// Writes two bytes, and two zeros behind them: how a plan and a record start.
-fn put_marks(area: &mut [u8], at: usize, first: u8, second: u8)
+// Writes the start of a plan or of a record: its kind, a plan's option or a record's flag, and two zeros, which are the count where a
+// stream is opened.
+fn put_kind(area: &mut [u8], at: usize, kind: u8, beside: u8)
     requires { ⌜ at + 4 ≤ length (now area) ⌝ }
-    ensures { λ _. ⌜ now (area .exit) ≡ written at (first ∷ second ∷ 0 ∷ 0 ∷ []) (now (area .entry)) ⌝ }
+    ensures { λ _. ⌜ now (area .exit) ≡ written at (kind ∷ beside ∷ 0 ∷ 0 ∷ []) (now (area .entry)) ⌝ }
 {
-    area[at] = first;
-    area[at + 1] = second;
+    area[at] = kind;
+    area[at + 1] = beside;
     little::put_u16(area, at + 2, 0);
 }
 
