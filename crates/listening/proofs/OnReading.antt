@@ -9,6 +9,7 @@ use lib.ListN.{length, drop}
 use Rattle.model.specs.declared.Plan.{Plan}
 use Rattle.model.specs.declared.Entry.{Entry}
 use Rattle.model.specs.declared.Figures.{Figures}
+use Rattle.model.specs.Sizes.{mostRecords}
 use Rattle.model.specs.Stations.{unopened, opened, validPlan}
 use Rattle.model.specs.Figuring.{started, figuresOf}
 use Rattle.model.specs.Calls.{admissible}
@@ -82,7 +83,7 @@ module _ {newest : ℕ} (area : List ℕ) (s : Standing) (es : List Entry) (at :
   pub read-area : area ≡ areaOf (opened (s .plan) es)
   read-area = sym (area-of-reading area (opened (s .plan) es) (at .reads) .1)
 
-  pub read-count : s .count ≤ 128
+  pub read-count : s .count ≤ mostRecords
   read-count = omega (arith, at .counted, count-within (s .plan) es read-entries)
 
 pub read-figures : (area : List ℕ) (s : Standing) (es : List Entry) → OpenedAt 0 area s es → FiguresWithin (s .count) (s .figures)
@@ -91,7 +92,7 @@ read-figures area s es at =
 
 -- ---- the level figures are bytes
 
-pub level-fits : (n : ℕ) (f : Figures) → n ≤ 128 → FiguresWithin n f → LevelFits (f .level)
+pub level-fits : (n : ℕ) (f : Figures) → n ≤ mostRecords → FiguresWithin n f → LevelFits (f .level)
 level-fits n f h known =
     let within = known .levels in
     record { levels = omega arith; rows = omega arith; judgedLots = omega arith; windows = omega arith }

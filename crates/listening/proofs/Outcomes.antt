@@ -6,8 +6,9 @@ use mathlib.Core.List.{List, [], _∷_, append-assoc}
 use native.Mathlib.Omega.{arith}
 use lib.Dec.{T}
 use borrow.Author.Tests.{ne-eqb, not-false}
-use lib.ListN.{length, drop}
+use lib.ListN.{length}
 use Rattle.little.specs.Little.{written}
+use Rattle.plans.specs.Limits.{largestLot}
 use Rattle.model.specs.declared.Plan.{Plan}
 use Rattle.model.specs.declared.Entry.{Entry}
 use Rattle.model.specs.declared.Entry.the-variants.{Lot, Run, Block, Stop}
@@ -45,14 +46,12 @@ use Rattle.model.specs.Area.{
   recordOf,
   recordsOf,
   areaOf,
-  entriesIn,
   unsound,
   holds,
   reading,
   AreaOutcome,
   onArea,
 }
-use Rattle.model.proofs.Booleans.{both-true}
 use Rattle.model.proofs.Allowed.{room-for, passed, allowed-run, allowed-block, allowed-stop}
 use Rattle.model.proofs.FigureBounds.{lot-size-range}
 use Rattle.model.proofs.AreaReading.{area-of-reading, part-record, records-in}
@@ -72,7 +71,7 @@ module _ (area : List ℕ) (c : Call) (r : Answer) where
   by-unsound e given = ap (λ (a : Answer). leaves a area) given ∙ sym (on-unsound area c e)
 
   -- a refusal on a station that the area holds
-  pub by-refusal : (st : Station) (n : ℕ) → reading area ≡ holds st → n ≡ refusalOf st c → (n ≡ 0 → ⊥) → r ≡ refused n
+  by-refusal : (st : Station) (n : ℕ) → reading area ≡ holds st → n ≡ refusalOf st c → (n ≡ 0 → ⊥) → r ≡ refused n
       → leaves r area ≡ onArea area c
   by-refusal st n e same applies given =
       let kept = refused-station st c (λ z. applies (same ∙ z)) in
@@ -80,7 +79,7 @@ module _ (area : List ℕ) (c : Call) (r : Answer) where
       ∙ sym (on-station area st c e ∙ rw (kept .0, kept .1, area-of-reading area st e .1))
 
   -- an accepted call
-  pub by-call : (st : Station) (after : List ℕ) → reading area ≡ holds st → refusalOf st c ≡ 0 → r ≡ answerOf st c
+  by-call : (st : Station) (after : List ℕ) → reading area ≡ holds st → refusalOf st c ≡ 0 → r ≡ answerOf st c
       → after ≡ areaOf (changed st c) → leaves r after ≡ onArea area c
   by-call st after e taken given left =
       rw (given, left) (sym (on-station area st c e ∙ rw (accepted-answer st c taken, accepted-station st c taken)))
@@ -170,7 +169,7 @@ kind-read (Block q w) = refl
 kind-read (Stop why days) = refl
 
 -- the newest record of an area
-newest-record : (p : Plan) (e : Entry) (es : List Entry) → length es < 128
+newest-record : (p : Plan) (e : Entry) (es : List Entry) → length es < mostRecords
     → recordIn (recordAt (areaOf (opened p (e ∷ es))) (length es)) .kind ≡ kindOf e
 unfolding recordAt recordsOf
 newest-record p e es room =
@@ -188,7 +187,7 @@ unfolding refusalOf refusals firstOf answerOf changed newestKind withoutNewest
 back-taken area s [] at last taken r after some ended read given left = absurd (some (at .counted))
 back-taken area s (e ∷ es) at last taken r after some ended read given left =
     let ends : last ≡ length es = omega (arith, at .counted) in
-    let room : length es < 128 = omega (arith, read-count area s (e ∷ es) at, at .counted) in
+    let room : length es < mostRecords = omega (arith, read-count area s (e ∷ es) at, at .counted) in
     let told : taken .kind ≡ kindOf e =
     ap (λ (x : Record). x .kind) read ∙ rw (ends, read-area area s (e ∷ es) at) (newest-record (s .plan) e es room) in
     by-call area Back r (opened (s .plan) (e ∷ es)) after (at .reads) (rw (ne-eqb (suc (length es)) 0 (λ z. omega arith)))
@@ -205,7 +204,7 @@ flag-fits p f n (Stop why days) z = omega (arith, allowed-stop p f n why days z 
 
 -- what an ask that is not refused is known to be
 pub allowed-ask : (p : Plan) (f : Figures) (N : ℕ) → firstOf (askRefusals p f N) ≡ 0
-    → (isContinuous p ≡ false) × (1 ≤ N) × (N ≤ 1000000)
+    → (isContinuous p ≡ false) × (1 ≤ N) × (N ≤ largestLot)
 unfolding askRefusals
 allowed-ask p f N z =
     let seven = passed 7 _ _ (omega arith) z in

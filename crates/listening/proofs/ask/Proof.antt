@@ -1,5 +1,6 @@
 use Rattle.listening.proofs.Lending.{by-length, by-number, by-look}
 use Prim.Native.Nat.{_+_, _-_}
+use Rattle.model.specs.Sizes.{areaLength}
 use native.Mathlib.Omega.{arith}
 use borrow.Author.Needs.{needs}
 use Rattle.listening.proofs.ask.Statement.{statement}
@@ -36,7 +37,7 @@ ask-requires : tie.Need-ask-requires
 ask-requires c κs = search needs
 
 returns-3 : tie.Need-returns-3
-returns-3 c = by-look (c .before .before .before .before .before .before .args .store .now) (c .before .before .before .before .before .before .args .stream) _ _ (c .before .before .start-of .result) (c .before .before .start-of .result + 2608 - c .before .before .start-of .result) (c .before .before .before .before .if1 .left) (c .before .before .before .if2 .left) (c .before .before .start-of .ensures) (omega arith) (c .ask .ensures)
+returns-3 c = by-look (c .before .before .before .before .before .before .args .store .now) (c .before .before .before .before .before .before .args .stream) _ _ (c .before .before .start-of .result) (c .before .before .start-of .result + areaLength - c .before .before .start-of .result) (c .before .before .before .before .if1 .left) (c .before .before .before .if2 .left) (c .before .before .start-of .ensures) (omega arith) (c .ask .ensures)
 
 pub ask-spec : {M : Type 1} → statement M
 ask-spec =

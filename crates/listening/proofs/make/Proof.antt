@@ -1,5 +1,6 @@
 use Rattle.listening.proofs.Lending.{by-length, by-number, by-area}
 use Prim.Native.Nat.{_+_, _-_}
+use Rattle.model.specs.Sizes.{areaLength}
 use native.Mathlib.Omega.{arith}
 use borrow.Author.Needs.{needs}
 use Rattle.listening.proofs.make.Statement.{statement}
@@ -39,7 +40,7 @@ same-length : tie.Need-same-length
 same-length c = search needs
 
 returns-3 : tie.Need-returns-3
-returns-3 c = by-area (c .before .before .before .before .before .before .before .before .args .store .now) (c .before .before .before .before .before .before .before .before .args .stream) _ _ (c .before .before .before .before .start-of .result) (c .before .before .before .before .start-of .result + 2608 - c .before .before .before .before .start-of .result) (c .before .before .before .before .before .before .if1 .left) (c .before .before .before .before .before .if2 .left) (c .before .before .before .before .start-of .ensures) (omega arith) _ (c .before .before .make .ensures)
+returns-3 c = by-area (c .before .before .before .before .before .before .before .before .args .store .now) (c .before .before .before .before .before .before .before .before .args .stream) _ _ (c .before .before .before .before .start-of .result) (c .before .before .before .before .start-of .result + areaLength - c .before .before .before .before .start-of .result) (c .before .before .before .before .before .before .if1 .left) (c .before .before .before .before .before .if2 .left) (c .before .before .before .before .start-of .ensures) (omega arith) _ (c .before .before .make .ensures)
 
 pub make-spec : {M : Type 1} → statement M
 make-spec =

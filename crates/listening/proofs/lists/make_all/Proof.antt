@@ -1,17 +1,14 @@
-use Rattle.listening.specs.Lists.{frameAt, requestsTo, numbersOf}
+use Rattle.listening.specs.Lists.{answerLength, frameAt, requestsTo, numbersOf}
 use mathlib.Core.Path.{_≡_, refl, ap, ap₂, _∙_}
 use Rattle.frame_text.specs.Program.{requestOf}
 use mathlib.Core.List.{List}
 use Prim.Native.Nat.{suc, _+_, _*_, _≤_, _-_, ℕ}
 use Rattle.listening.proofs.ListLaws.{none-made, store-next, answers-next, answers-all, made-before}
-use Rattle.listening.specs.Lists.{requestsTo, numbersOf}
 use Rattle.model.specs.Store.{storeAfter, answersTo}
 use Rattle.little.specs.Little.{written}
 use lib.ListN.{length}
 use borrow.Author.Needs.{needs}
 use native.Mathlib.Omega.{arith}
-use mathlib.Core.Path.{_≡_, refl, ap, _∙_}
-use Prim.Native.Nat.{suc, _+_, _≤_, _-_}
 use Rattle.listening.proofs.lists.make_all.Statement.{statement}
 use Rattle.listening.proofs.lists.make_all.Tie as tie
 
@@ -41,11 +38,11 @@ loop-again c =
     let s = start .store .now in
     let ns = start .calls .now in
     let made = made-before ns (suc (turn .i)) (start .count) (omega arith) (c .before .before .before .before .before .before .before .before .before .before .before .before .pre .2) in
-    let fits : 4 * turn .i + 4 ≤ length (start .answers .now) = omega arith in (
+    let fits : answerLength * turn .i + answerLength ≤ length (start .answers .now) = omega arith in (
       omega arith,
       one .ensures .0 ∙ ap (λ (x : List ℕ). storeAfter x (requestOf (frameAt ns (turn .i)))) (turn .inv .1) ∙ store-next s ns (turn .i),
       one .ensures .1
-          ∙ ap₂ (λ (x y : List ℕ). written (4 * turn .i) (numbersOf (answersTo x (requestOf (frameAt ns (turn .i))))) y) (turn .inv .1) (turn .inv .2)
+          ∙ ap₂ (λ (x y : List ℕ). written (answerLength * turn .i) (numbersOf (answersTo x (requestOf (frameAt ns (turn .i))))) y) (turn .inv .1) (turn .inv .2)
           ∙ answers-next s ns (turn .i) (start .answers .now) made fits,
       one .kept .0 ∙ turn .inv .3,
       one .kept .1 .1 .1 .0 ∙ turn .inv .4,
