@@ -73,7 +73,7 @@ module _ (newest : ℕ) (area : List ℕ) (s : Standing) (said : s ≡ standingO
           )
 
 -- what holds of the plan, the entries and the figures of such an area
-module _ {newest : ℕ} (area : List ℕ) (s : Standing) (es : List Entry) (at : OpenedAt newest area s es) where
+module _ {newest : ℕ} {area : List ℕ} {s : Standing} {es : List Entry} (at : OpenedAt newest area s es) where
   pub read-plan : T (validPlan (s .plan))
   read-plan = plan-of (s .plan) es (area-of-reading area (opened (s .plan) es) (at .reads) .0)
 
@@ -86,9 +86,8 @@ module _ {newest : ℕ} (area : List ℕ) (s : Standing) (es : List Entry) (at :
   pub read-count : s .count ≤ mostRecords
   read-count = omega (arith, at .counted, count-within (s .plan) es read-entries)
 
-pub read-figures : (area : List ℕ) (s : Standing) (es : List Entry) → OpenedAt 0 area s es → FiguresWithin (s .count) (s .figures)
-read-figures area s es at =
-    rw (at .counted, at .brought) (figures-within (s .plan) es (read-plan area s es at) (read-entries area s es at))
+pub read-figures : {area : List ℕ} {s : Standing} {es : List Entry} → OpenedAt 0 area s es → FiguresWithin (s .count) (s .figures)
+read-figures at = rw (at .counted, at .brought) (figures-within _ _ (read-plan at) (read-entries at))
 
 -- ---- the level figures are bytes
 
@@ -107,9 +106,9 @@ without-newest p zero es t = t
 without-newest p (suc k) [] t = t
 without-newest p (suc k) (e ∷ es) t = without-newest p k es (newest-of p e es t .others)
 
-pub figures-fit : (newest : ℕ) (area : List ℕ) (s : Standing) (es : List Entry) → OpenedAt newest area s es
+pub figures-fit : {newest : ℕ} {area : List ℕ} {s : Standing} {es : List Entry} → OpenedAt newest area s es
     → LevelFits (s .figures .level)
-figures-fit newest area s es at =
-    let older = without-newest (s .plan) newest es (read-entries area s es at) in
+figures-fit {newest} {area} {s} {es} at =
+    let older = without-newest (s .plan) newest es (read-entries at) in
     rw (at .brought)
-    (level-fits _ _ (count-within (s .plan) (drop newest es) older) (figures-within (s .plan) (drop newest es) (read-plan area s es at) older))
+    (level-fits _ _ (count-within (s .plan) (drop newest es) older) (figures-within (s .plan) (drop newest es) (read-plan at) older))
