@@ -45,7 +45,7 @@ length-one store Bad e = absurd (never-both false e refl)
 
 module _ (store ns : List ℕ) where
   -- one call more
-  pub store-next : (i : ℕ)
+  store-next : (i : ℕ)
       → storeAfter (storeAfter store (requestsTo ns i)) (requestOf (frameAt ns i)) ≡ storeAfter store (requestsTo ns (i + 1))
   unfolding requestsTo
   store-next i = rw (add-one i) (sym (store-after store (requestsTo ns i) (requestOf (frameAt ns i))))
@@ -68,7 +68,7 @@ module _ (store ns : List ℕ) where
       rw (numbers-next i, length-append) (omega arith)
 
   -- the answers so far, and the next one behind them
-  pub answers-next : (i : ℕ) (answers : List ℕ) → allMade ns (suc i) ≡ true → answerLength * i + answerLength ≤ length answers
+  answers-next : (i : ℕ) (answers : List ℕ) → allMade ns (suc i) ≡ true → answerLength * i + answerLength ≤ length answers
       → written (answerLength * i) (numbersOf (answersTo (storeAfter store (requestsTo ns i)) (requestOf (frameAt ns i))))
       (written 0 (numbersOf (answersTo store (requestsTo ns i))) answers)
       ≡ written 0 (numbersOf (answersTo store (requestsTo ns (i + 1)))) answers
@@ -82,6 +82,17 @@ module _ (store ns : List ℕ) where
       (numbersOf (answersTo (storeAfter store (requestsTo ns i)) (requestOf (frameAt ns i)))) answers (omega arith) in
       let at : 0 + length (numbersOf (answersTo store (requestsTo ns i))) ≡ answerLength * i = omega arith in
       rw (add-one i, numbers-next i) (rw at at next)
+
+  -- a turn of the loop that makes the calls
+  pub turn-made : (i : ℕ) (answers : List ℕ) {before after written-before written-after : List ℕ} → allMade ns (suc i) ≡ true
+      → answerLength * i + answerLength ≤ length answers
+      → before ≡ storeAfter store (requestsTo ns i)
+      → written-before ≡ written 0 (numbersOf (answersTo store (requestsTo ns i))) answers
+      → after ≡ storeAfter before (requestOf (frameAt ns i))
+      → written-after ≡ written (answerLength * i) (numbersOf (answersTo before (requestOf (frameAt ns i)))) written-before
+      → (after ≡ storeAfter store (requestsTo ns (i + 1)))
+      × (written-after ≡ written 0 (numbersOf (answersTo store (requestsTo ns (i + 1)))) answers)
+  turn-made i answers e fits s a made wrote = (made ∙ rw s (store-next i), wrote ∙ rw (s, a) (answers-next i answers e fits))
 
   -- all the answers fill the room
   pub answers-all : (n : ℕ) (answers : List ℕ) → allMade ns n ≡ true → length answers ≡ answerLength * n
@@ -135,14 +146,14 @@ unfolding allMade
 all-next ns i before e = rw (add-one i) (rw (before, e))
 
 -- one call of a list, made or passed over
-module _ (store ns answers : List ℕ) (i : ℕ) (f : Frame) (read : f ≡ frameAt ns i) where
-  pub one-made : (stream : ℕ) (c : Call) (r : Answer) (storeThen answersThen : List ℕ) → f ≡ Made stream c
+module _ (store ns answers : List ℕ) (i : ℕ) {f : Frame} (read : f ≡ frameAt ns i) where
+  pub one-made : {stream : ℕ} {c : Call} {r : Answer} {storeThen answersThen : List ℕ} → f ≡ Made stream c
       → _≡_ {A = StoreOutcome} (record { answer = r; store = storeThen }) (onStore store (record { stream = stream; made = c }))
       → answersThen ≡ written (answerLength * i) (numbersOf (r ∷ [])) answers
       → (storeThen ≡ storeAfter store (requestOf (frameAt ns i)))
       × (answersThen ≡ written (answerLength * i) (numbersOf (answersTo store (requestOf (frameAt ns i)))) answers)
   unfolding requestOf storeAfter answersTo
-  one-made stream c r storeThen answersThen made outcome wrote =
+  one-made made outcome wrote =
       rw (sym read ∙ made) (
         ap (λ (o : StoreOutcome). o .store) outcome,
         wrote ∙ ap (λ (o : StoreOutcome). written (answerLength * i) (numbersOf (o .answer ∷ [])) answers) outcome,
@@ -164,8 +175,8 @@ unfolding allMade
 none-yet ns = refl
 
 -- a list that is none
-pub list-refused : (store ns answers : List ℕ) → isList ns answers ≡ false → Listed store ns answers false store answers
-list-refused store ns answers e =
+pub list-refused : {store ns answers : List ℕ} → isList ns answers ≡ false → Listed store ns answers false store answers
+list-refused e =
     record {
       taken = sym e;
       kept = λ z. (refl, refl);
@@ -175,10 +186,10 @@ list-refused store ns answers e =
     }
 
 -- a list whose calls were made
-pub list-made : (store ns answers storeThen answersThen : List ℕ) → isList ns answers ≡ true → ((k : ℕ) → getD ns k 0 < 2 ^ 32)
+pub list-made : {store ns answers storeThen answersThen : List ℕ} → isList ns answers ≡ true → ((k : ℕ) → getD ns k 0 < 2 ^ 32)
     → storeThen ≡ storeAfter store (requestsTo ns (callsIn ns))
     → answersThen ≡ numbersOf (answersTo store (requestsTo ns (callsIn ns))) → Listed store ns answers true storeThen answersThen
-list-made store ns answers storeThen answersThen e words s a =
+list-made {ns = ns} e words s a =
     record {
       taken = sym e;
       kept = λ z. absurd (never-both true refl z);
