@@ -12,11 +12,12 @@ use lib.Seq.{getD-take, getD-drop, drop-cons, drop-drop, take-add, ext-getD}
 use Rattle.little.specs.Little.{bytes, value, part, written, AreBytes}
 use Rattle.little.proofs.Laws.{value-bytes, bytes-value, length-part, length-written, set-written, written-next}
 use Rattle.model.specs.Sizes.{recordLength, headerLength, mostRecords}
+use Rattle.model.proofs.Booleans.{never-both}
 use Rattle.records.specs.Records.{recordIn, recordAt, Decides}
 
 -- ---- parts
 
-pub getD-part : (at k : ℕ) (s : List ℕ) (i : ℕ) → i < k → getD (part at k s) i 0 ≡ getD s (at + i) 0
+getD-part : (at k : ℕ) (s : List ℕ) (i : ℕ) → i < k → getD (part at k s) i 0 ≡ getD s (at + i) 0
 unfolding part
 getD-part at k s i h = rw (getD-take k (drop at s) i 0 h, getD-drop at s i 0)
 
@@ -111,20 +112,17 @@ then-set at {next} a x s {t} p e h =
 
 -- ---- tests
 
-never : {b : Bool} → b ≡ true → b ≡ false → ⊥
-never t f = let z : _≡_ {A = ℕ} 0 1 = cc in omega arith
-
 -- an answer that is yes, of what holds
 pub proven : {P : Type 0} → P → Decides true P
 proven p = record { shows = λ e. p; shown = λ q. refl }
 
 -- an answer that is no, of what does not hold
 pub refuted : {P : Type 0} → (P → ⊥) → Decides false P
-refuted nay = record { shows = λ e. absurd (never e refl); shown = λ p. absurd (nay p) }
+refuted nay = record { shows = λ e. absurd (never-both false e refl); shown = λ p. absurd (nay p) }
 
 -- what was decided not to hold does not
 pub decided-not : {b : Bool} {P : Type 0} → Decides b P → b ≡ false → P → ⊥
-decided-not d e p = never (d .shown p) e
+decided-not {b} d e p = never-both b (d .shown p) e
 
 -- where a part of the bytes is not what it is to be, they are not
 pub part-differs : (at m j k : ℕ) (s w : List ℕ) → j + k ≤ m → (part (at + j) k s ≡ part j k w → ⊥) → Decides false (part at m s ≡ w)
