@@ -18,7 +18,7 @@ use Rattle.model.specs.declared.Figures.{Figures}
 use Rattle.model.specs.declared.Answer.{Answer}
 use Rattle.model.specs.Sizes.{recordLength, mostRecords}
 use Rattle.records.specs.declared.Record.{Record}
-use Rattle.records.specs.Records.{recordIn, recordAt}
+use Rattle.records.specs.Records.{recordIn, recordAt, figuresStart}
 use Rattle.model.specs.Stations.{Station, unopened, opened, validPlan, isContinuous}
 use Rattle.model.specs.Figuring.{sampleAsked, stepped, started, figuresOf}
 use Rattle.model.specs.Calls.{
@@ -98,7 +98,7 @@ module _ (area : List ℕ) (plan : Plan) {r : Answer} where
       by-refusal area (Open plan) r unopened 5 e (rw (sym same ∙ fails)) (λ z. omega arith) given
 
   pub open-made : {f : Figures} {planned after : List ℕ} → reading area ≡ holds unopened → T (validPlan plan) → r ≡ gives 0 0 0
-      → planned ≡ written 0 (planBytes plan 0) area → f ≡ started plan → after ≡ written 16 (figureBytes f) planned
+      → planned ≡ written 0 (planBytes plan 0) area → f ≡ started plan → after ≡ written figuresStart (figureBytes f) planned
       → leaves r after ≡ onArea area (Open plan)
   unfolding answerOf changed
   open-made {after = after} e valid given plans starts left =

@@ -15,6 +15,7 @@ use Rattle.model.specs.Stations.{unopened, opened}
 use Rattle.model.specs.Figuring.{started, figuresOf}
 use Rattle.model.specs.Area.{zeros, planBytes, figureBytes, recordOf, recordsOf, areaOf}
 use Rattle.model.proofs.AreaReading.{length-record, length-records, length-plan-bytes, length-figure-bytes}
+use Rattle.records.specs.Records.{countStart, figuresStart}
 use Rattle.listening.specs.Written.{rewritten}
 
 -- a write over x, between a and z
@@ -28,7 +29,7 @@ written-at at a x z b la lx =
 -- ---- an area's record, count and figures
 
 -- a write of the count in the plan's bytes
-count-written : (p : Plan) (m n : ℕ) (z : List ℕ) → written 2 (bytes 2 n) (planBytes p m ++ z) ≡ planBytes p n ++ z
+count-written : (p : Plan) (m n : ℕ) (z : List ℕ) → written countStart (bytes 2 n) (planBytes p m ++ z) ≡ planBytes p n ++ z
 unfolding written planBytes bytes
 count-written p m n z = refl
 
@@ -49,7 +50,7 @@ module _ (p : Plan) (i m : ℕ) (f : Figures) (s x r z : List ℕ)
   unfolding rewritten
   rewritten-area n g =
       let same : length (figureBytes f) ≡ length (figureBytes g) = length-figure-bytes f ∙ sym (length-figure-bytes g) in
-      let figured = written-at 16 (planBytes p n) (figureBytes f) (s ++ (r ++ z)) (figureBytes g) (length-plan-bytes p n) same in
+      let figured = written-at figuresStart (planBytes p n) (figureBytes f) (s ++ (r ++ z)) (figureBytes g) (length-plan-bytes p n) same in
       rw (recorded, count-written p m n, figured)
 
 -- what is unused behind n records
@@ -96,6 +97,6 @@ module _ (p : Plan) (e : Entry) (es : List Entry) (room : length es < mostRecord
 -- ---- a stream is opened
 
 -- the plan, then the figures, over an area of zeros
-pub opened-area : (p : Plan) → written 16 (figureBytes (started p)) (written 0 (planBytes p 0) (areaOf unopened)) ≡ areaOf (opened p [])
+pub opened-area : (p : Plan) → written figuresStart (figureBytes (started p)) (written 0 (planBytes p 0) (areaOf unopened)) ≡ areaOf (opened p [])
 unfolding written areaOf planBytes figureBytes bytes recordsOf figuresOf
 opened-area p = refl

@@ -9,7 +9,7 @@ ghost use Rattle.model.specs.Sizes.{areaLength, recordLength, headerLength, mos
 ghost use Rattle.model.specs.Stations.{entryArguments, allWords};
 ghost use Rattle.model.specs.Figuring.{stepped};
 ghost use Rattle.model.specs.Area.{zeros, figureBytes, recordOf, onArea};
-ghost use Rattle.records.specs.Records.{LevelFits};
+ghost use Rattle.records.specs.Records.{countStart, figuresStart, LevelFits};
 ghost use Rattle.listening.specs.Written.{rewritten, FlagFits, Takes};
 use model::Answer;
 use model::Call;
@@ -167,7 +167,7 @@ fn clear_entry(area: &mut [u8], last: usize, figures: Figures)
 // Writes the count of standing records, and the figures after them.
 fn put_standing(area: &mut [u8], count: usize, figures: Figures)
     requires { ⌜ (length (now area) ≡ areaLength) × (count ≤ mostRecords) × LevelFits (figures .level) ⌝ }
-    ensures { λ _. ⌜ now (area .exit) ≡ written 16 (figureBytes figures) (written 2 (bytes 2 count) (now (area .entry))) ⌝ }
+    ensures { λ _. ⌜ now (area .exit) ≡ written figuresStart (figureBytes figures) (written countStart (bytes 2 count) (now (area .entry))) ⌝ }
 {
     records::put_count(area, count);
     records::put_figures(area, figures);

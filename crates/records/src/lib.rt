@@ -8,7 +8,7 @@ ghost use lib.ListN.{length, drop};
 ghost use Rattle.little.specs.Little.{bytes, part, written};
 ghost use Rattle.model.specs.Sizes.{recordLength, headerLength, mostRecords, areaLength};
 ghost use Rattle.model.specs.Area.{zeros, planBytes, figureBytes, recordBytes, planIn, countIn};
-ghost use Rattle.records.specs.Records.{recordIn, recordAt, levelBytes, continuousBytes, LevelFits, Decides, ZeroBetween};
+ghost use Rattle.records.specs.Records.{recordIn, recordAt, countStart, figuresStart, levelBytes, continuousBytes, LevelFits, Decides, ZeroBetween};
 use model::Figures;
 use model::Plan;
 use model::sizes::AREA_LENGTH;
@@ -107,7 +107,7 @@ pub fn put_plan(area: &mut [u8], plan: Plan)
 // Writes the count of standing records.
 pub fn put_count(area: &mut [u8], count: usize)
     requires { ⌜ (length (now area) ≡ areaLength) × (count < 65536) ⌝ }
-    ensures { λ _. ⌜ now (area .exit) ≡ written 2 (bytes 2 count) (now (area .entry)) ⌝ }
+    ensures { λ _. ⌜ now (area .exit) ≡ written countStart (bytes 2 count) (now (area .entry)) ⌝ }
 {
     little::put_u16(area, 2, count as u16);
 }
@@ -115,7 +115,7 @@ pub fn put_count(area: &mut [u8], count: usize)
 // Writes the figures: bytes 16 to 47.
 pub fn put_figures(area: &mut [u8], figures: Figures)
     requires { ⌜ (length (now area) ≡ areaLength) × LevelFits (figures .level) ⌝ }
-    ensures { λ _. ⌜ now (area .exit) ≡ written 16 (figureBytes figures) (now (area .entry)) ⌝ }
+    ensures { λ _. ⌜ now (area .exit) ≡ written figuresStart (figureBytes figures) (now (area .entry)) ⌝ }
 {
     let credit = figures.credit;
     let level = figures.level;
