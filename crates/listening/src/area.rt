@@ -79,7 +79,7 @@ fn enter(area: &mut [u8], entry: Entry) -> Answer
     answering::entry(plan, figures, after, count, entry)
 }
 
-// Takes the newest entry back.
+// Takes the newest entry back. The reading sets it apart, and hands over the figures before it: they can't be had from those after.
 fn take_back(area: &mut [u8]) -> Answer
     requires { ⌜ length (now area) ≡ areaLength ⌝ }
     ensures { λ r. ⌜ record { answer = r; area = now (area .exit) } ≡ onArea (now (area .entry)) Back ⌝ }
@@ -100,7 +100,7 @@ fn take_back(area: &mut [u8]) -> Answer
     answering::gives(taken.kind as u32, 0, 0)
 }
 
-// The sample that a lot asks for.
+// The sample that a lot asks for. Ask and Read borrow the area with `&`, so that they can't write.
 pub fn ask(area: &[u8], size: u32) -> Answer
     requires { ⌜ length (now area) ≡ areaLength ⌝ }
     ensures { λ r. ⌜ record { answer = r; area = now (area .entry) } ≡ onArea (now (area .entry)) (Ask size) ⌝ }

@@ -37,7 +37,7 @@ pub fn list(store: &mut [u8], calls: &[u32], answers: &mut [u32]) -> bool
     true
 }
 
-// Whether each of the first calls exists.
+// Whether each of the first calls exists. It is asked of all before any is made, so that numbers that are no list change nothing.
 fn are_made(calls: &[u32], count: usize) -> bool
     requires { ⌜ callLength * count ≤ length (now calls) ⌝ }
     ensures { λ r. ⌜ r ≡ allMade (now (calls .entry)) count ⌝ }
@@ -64,7 +64,8 @@ fn make_all(store: &mut [u8], calls: &[u32], count: usize, answers: &mut [u32])
     }
 }
 
-// Makes the i-th call, from 0, and writes its answer in its place.
+// Makes the i-th call, from 0, and writes its answer in its place. `are_made` has ruled out a bad one; this function is proved without
+// that, so that its contract asks for no more than room.
 fn make_one(store: &mut [u8], calls: &[u32], i: usize, answers: &mut [u32])
     requires { ⌜ (callLength * i + callLength ≤ length (now calls)) × (answerLength * i + answerLength ≤ length (now answers)) ⌝ }
     ensures { λ _. ⌜ (now (store .exit) ≡ storeAfter (now (store .entry)) (requestOf (frameAt (now (calls .entry)) i))) × (now (answers .exit) ≡ written (answerLength * i) (numbersOf (answersTo (now (store .entry)) (requestOf (frameAt (now (calls .entry)) i)))) (now (answers .entry))) ⌝ }
