@@ -115,15 +115,15 @@ fn open_call(kind: u32, option: u32, a: u32, b: u32) -> Call
     Call::Open(Plan { kind, option, a, b })
 }
 
-fn lot_call(label: u32, size: u32, sample: u32, wrong: u32, total: u32) -> Call
-    ensures { λ r. ⌜ r ≡ Call.Enter (Entry.Lot label size sample wrong total) ⌝ }
+fn lot_call(label: u32, size: u32, sample: u32, wrong: u32, wrong_in_all: u32) -> Call
+    ensures { λ r. ⌜ r ≡ Call.Enter (Entry.Lot label size sample wrong «wrong_in_all») ⌝ }
 {
     Call::Enter(Entry::Lot {
         label,
         size,
         sample,
         wrong,
-        wrong_in_all: total,
+        wrong_in_all,
     })
 }
 

@@ -1,12 +1,12 @@
 -- An area in which an entry was accepted and its record written: the replay of that record brings the figures. Assumes nothing.
-use Prim.Native.Nat.{ℕ, suc, _+_, _-_, _*_, _≤_, _<_}
-use mathlib.Core.Path.{_≡_, refl, sym, ap, _∙_}
+use Prim.Native.Nat.{ℕ, suc, _+_, _*_, _<_}
+use mathlib.Core.Path.{_≡_, sym, ap, _∙_}
 use mathlib.Core.Bool.{true}
 use mathlib.Core.List.{List, _∷_, _++_, append-assoc}
 use native.Mathlib.Numerals.{add-one}
 use native.Mathlib.Omega.{arith}
 use lib.Dec.{T}
-use lib.ListN.{length, drop, length-append, length-replicate}
+use lib.ListN.{length, length-append, length-replicate}
 use lib.Seq.{take-all}
 use Rattle.little.specs.Little.{bytes, part, written}
 use Rattle.little.proofs.Laws.{length-written}
@@ -16,7 +16,7 @@ use Rattle.model.specs.declared.Figures.{Figures}
 use Rattle.model.specs.Sizes.{recordLength, headerLength, mostRecords, areaLength}
 use Rattle.model.specs.Stations.{entryArguments, allWords}
 use Rattle.model.specs.Figuring.{stepped, figuresOf}
-use Rattle.model.specs.Calls.{firstOf, entryRefusals, admissible}
+use Rattle.model.specs.Calls.{firstOf, entryRefusals}
 use Rattle.model.specs.Area.{planBytes, figureBytes, recordOf, recordsOf}
 use Rattle.model.proofs.Allowed.{room-for}
 use Rattle.model.proofs.Keeping.{entry-admissible}
@@ -24,7 +24,7 @@ use Rattle.model.proofs.AreaReading.{length-record, length-records}
 use Rattle.model.proofs.FigureBounds.{stepped-within}
 use Rattle.records.specs.Records.{LevelFits}
 use Rattle.replaying.specs.declared.Entered.{Entered}
-use Rattle.replaying.specs.Replaying.{recordsIn, figuresTo, standTo, Ready, Replayed}
+use Rattle.replaying.specs.Replaying.{recordsIn, standTo, Ready, Replayed}
 use Rattle.replaying.proofs.Parts.{stand-of, figures-of-records}
 use Rattle.replay.specs.declared.Standing.{Standing}
 use Rattle.listening.proofs.OnReading.{OpenedAt, read-plan, read-entries, read-area, read-figures, level-fits}
@@ -36,8 +36,8 @@ records-behind : (p : Plan) (n : ℕ) (f : Figures) (rest : List ℕ) → length
 unfolding recordsIn part planBytes figureBytes bytes
 records-behind p n f rest l = take-all (recordLength * mostRecords) rest (omega arith)
 
-module _ (area : List ℕ) (s : Standing) (es : List Entry) (at : OpenedAt 0 area s es) (e : Entry)
-    (none : firstOf (entryRefusals (s .plan) (s .figures) (s .count) e) ≡ 0) (after : List ℕ)
+module _ {area : List ℕ} {s : Standing} {es : List Entry} (at : OpenedAt 0 area s es) (e : Entry)
+    (none : firstOf (entryRefusals (s .plan) (s .figures) (s .count) e) ≡ 0) {after : List ℕ}
     (left : after ≡ written (headerLength + recordLength * s .count) (recordOf e) area) where
   accepted : firstOf (entryRefusals (s .plan) (figuresOf (s .plan) es) (length es) e) ≡ 0
   accepted = rw (at .brought, at .counted) at none
@@ -50,7 +50,7 @@ module _ (area : List ℕ) (s : Standing) (es : List Entry) (at : OpenedAt 0 are
   records-after =
       let size : length (recordsOf es ++ (recordOf e ++ unused (suc (length es)))) ≡ recordLength * mostRecords =
       simp (length-append, length-records, length-record, length-replicate) (omega (arith, room)) in
-      rw (left, at .counted, read-area area s es at, recorded-area (s .plan) e es room) (records-behind _ _ _ _ size)
+      rw (left, at .counted, read-area at, recorded-area (s .plan) e es room) (records-behind _ _ _ _ size)
 
   pub length-after : length area ≡ areaLength → length after ≡ areaLength
   length-after whole =
@@ -62,21 +62,21 @@ module _ (area : List ℕ) (s : Standing) (es : List Entry) (at : OpenedAt 0 are
   entry-ready whole =
       record {
         whole = length-after whole;
-        valid = read-plan area s es at;
+        valid = read-plan at;
         inOrder = omega arith;
         room = omega (arith, room, at .counted);
-        stood = rw (at .counted) (stand-of (s .plan) es after _ records-after (read-entries area s es at));
+        stood = rw (at .counted) (stand-of (s .plan) es after _ records-after (read-entries at));
         brought =
             at .brought
-            ∙ rw (at .counted) (sym (figures-of-records (s .plan) es after _ records-after (read-entries area s es at)));
+            ∙ rw (at .counted) (sym (figures-of-records (s .plan) es after _ records-after (read-entries at)));
       }
 
   -- the replay of the record brings the figures that the entry brings
-  pub entry-brings : T (allWords (entryArguments e)) → (r : Entered) → Replayed (s .plan) after (s .count + 1) r
+  pub entry-brings : T (allWords (entryArguments e)) → {r : Entered} → Replayed (s .plan) after (s .count + 1) r
       → r .figures ≡ stepped (s .plan) e (s .figures)
   unfolding recordsOf figuresOf
-  entry-brings words r replayed =
-      let entries = entry-admissible (s .plan) es e (read-entries area s es at) accepted words in
+  entry-brings words {r} replayed =
+      let entries = entry-admissible (s .plan) es e (read-entries at) accepted words in
       let records : recordsIn after ≡ recordsOf (e ∷ es) ++ unused (suc (length es)) =
       records-after ∙ sym (append-assoc (recordsOf es) (recordOf e) _) in
       let more : s .count + 1 ≡ length (e ∷ es) = add-one (s .count) ∙ ap suc (at .counted) in
@@ -86,8 +86,8 @@ module _ (area : List ℕ) (s : Standing) (es : List Entry) (at : OpenedAt 0 are
       ∙ rw (more, at .brought) (figures-of-records (s .plan) (e ∷ es) after _ records entries)
 
   -- and their level figures are bytes
-  pub entry-fits : T (allWords (entryArguments e)) → (r : Entered) → Replayed (s .plan) after (s .count + 1) r → LevelFits (r .figures .level)
-  entry-fits words r replayed =
-      rw (entry-brings words r replayed)
+  pub entry-fits : T (allWords (entryArguments e)) → {r : Entered} → Replayed (s .plan) after (s .count + 1) r → LevelFits (r .figures .level)
+  entry-fits words replayed =
+      rw (entry-brings words replayed)
       (level-fits (suc (s .count)) _ (omega (arith, room, at .counted))
-      (stepped-within (s .plan) e (s .figures) (s .count) (read-plan area s es at) none words (read-figures area s es at)))
+      (stepped-within (s .plan) e (s .figures) (s .count) (read-plan at) none words (read-figures at)))

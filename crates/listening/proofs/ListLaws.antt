@@ -23,7 +23,7 @@ use Rattle.frame_text.specs.declared.Frame.the-variants.{Made, Bad}
 use Rattle.frame_text.specs.Program.{requestOf}
 use Rattle.frame_text.proofs.Small.{numbered-small}
 use Rattle.frame_text.proofs.Requests.{words-before}
-use Rattle.listening.specs.Lists.{frameAt, isMade, allMade, requestsTo, numbersOf, callsIn, isList, Listed}
+use Rattle.listening.specs.Lists.{callLength, answerLength, frameAt, isMade, allMade, requestsTo, numbersOf, callsIn, isList, Listed}
 
 answers-after : (store : List ℕ) (first second : List Request)
     → answersTo store (first ++ second) ≡ answersTo store first ++ answersTo (storeAfter store first) second
@@ -38,14 +38,14 @@ numbers-append [] second = refl
 numbers-append (a ∷ first) second =
     ap (λ (rest : List ℕ). a .refusal ∷ a .first ∷ a .second ∷ a .third ∷ rest) (numbers-append first second)
 
-length-one : (store : List ℕ) (f : Frame) → isMade f ≡ true → length (numbersOf (answersTo store (requestOf f))) ≡ 4
+length-one : (store : List ℕ) (f : Frame) → isMade f ≡ true → length (numbersOf (answersTo store (requestOf f))) ≡ answerLength
 unfolding numbersOf answersTo requestOf isMade
 length-one store (Made stream c) e = refl
 length-one store Bad e = absurd (never-both false e refl)
 
 module _ (store ns : List ℕ) where
   -- one call more
-  pub store-next : (i : ℕ)
+  store-next : (i : ℕ)
       → storeAfter (storeAfter store (requestsTo ns i)) (requestOf (frameAt ns i)) ≡ storeAfter store (requestsTo ns (i + 1))
   unfolding requestsTo
   store-next i = rw (add-one i) (sym (store-after store (requestsTo ns i) (requestOf (frameAt ns i))))
@@ -58,7 +58,7 @@ module _ (store ns : List ℕ) where
       ap numbersOf (answers-after store (requestsTo ns i) (requestOf (frameAt ns i)))
       ∙ numbers-append (answersTo store (requestsTo ns i)) (answersTo (storeAfter store (requestsTo ns i)) (requestOf (frameAt ns i)))
 
-  pub length-numbers : (i : ℕ) → allMade ns i ≡ true → length (numbersOf (answersTo store (requestsTo ns i))) ≡ 4 * i
+  length-numbers : (i : ℕ) → allMade ns i ≡ true → length (numbersOf (answersTo store (requestsTo ns i))) ≡ answerLength * i
   unfolding allMade requestsTo answersTo numbersOf
   length-numbers zero e = refl
   length-numbers (suc i) e =
@@ -68,8 +68,8 @@ module _ (store ns : List ℕ) where
       rw (numbers-next i, length-append) (omega arith)
 
   -- the answers so far, and the next one behind them
-  pub answers-next : (i : ℕ) (answers : List ℕ) → allMade ns (suc i) ≡ true → 4 * i + 4 ≤ length answers
-      → written (4 * i) (numbersOf (answersTo (storeAfter store (requestsTo ns i)) (requestOf (frameAt ns i))))
+  answers-next : (i : ℕ) (answers : List ℕ) → allMade ns (suc i) ≡ true → answerLength * i + answerLength ≤ length answers
+      → written (answerLength * i) (numbersOf (answersTo (storeAfter store (requestsTo ns i)) (requestOf (frameAt ns i))))
       (written 0 (numbersOf (answersTo store (requestsTo ns i))) answers)
       ≡ written 0 (numbersOf (answersTo store (requestsTo ns (i + 1)))) answers
   unfolding allMade
@@ -80,11 +80,22 @@ module _ (store ns : List ℕ) where
       let next =
       written-next 0 (numbersOf (answersTo store (requestsTo ns i)))
       (numbersOf (answersTo (storeAfter store (requestsTo ns i)) (requestOf (frameAt ns i)))) answers (omega arith) in
-      let at : 0 + length (numbersOf (answersTo store (requestsTo ns i))) ≡ 4 * i = omega arith in
+      let at : 0 + length (numbersOf (answersTo store (requestsTo ns i))) ≡ answerLength * i = omega arith in
       rw (add-one i, numbers-next i) (rw at at next)
 
+  -- a turn of the loop that makes the calls
+  pub turn-made : (i : ℕ) (answers : List ℕ) {before after written-before written-after : List ℕ} → allMade ns (suc i) ≡ true
+      → answerLength * i + answerLength ≤ length answers
+      → before ≡ storeAfter store (requestsTo ns i)
+      → written-before ≡ written 0 (numbersOf (answersTo store (requestsTo ns i))) answers
+      → after ≡ storeAfter before (requestOf (frameAt ns i))
+      → written-after ≡ written (answerLength * i) (numbersOf (answersTo before (requestOf (frameAt ns i)))) written-before
+      → (after ≡ storeAfter store (requestsTo ns (i + 1)))
+      × (written-after ≡ written 0 (numbersOf (answersTo store (requestsTo ns (i + 1)))) answers)
+  turn-made i answers e fits s a made wrote = (made ∙ rw s (store-next i), wrote ∙ rw (s, a) (answers-next i answers e fits))
+
   -- all the answers fill the room
-  pub answers-all : (n : ℕ) (answers : List ℕ) → allMade ns n ≡ true → length answers ≡ 4 * n
+  pub answers-all : (n : ℕ) (answers : List ℕ) → allMade ns n ≡ true → length answers ≡ answerLength * n
       → written 0 (numbersOf (answersTo store (requestsTo ns n))) answers ≡ numbersOf (answersTo store (requestsTo ns n))
   unfolding written
   answers-all n answers e room =
@@ -109,15 +120,15 @@ words-append (r ∷ first) second a b =
     let parts = both-of (allWords (arguments (r .made))) (areWords first) a in
     both (allWords (arguments (r .made))) (areWords (first ++ second)) (parts .0) (words-append first second (parts .1) b)
 
-pub requests-words : (ns : List ℕ) → ((k : ℕ) → getD ns k 0 < 2 ^ 32) → (i : ℕ) → T (areWords (requestsTo ns i))
+requests-words : (ns : List ℕ) → ((k : ℕ) → getD ns k 0 < 2 ^ 32) → (i : ℕ) → T (areWords (requestsTo ns i))
 unfolding requestsTo areWords frameAt
 requests-words ns words zero = tt
 requests-words ns words (suc i) =
     words-append (requestsTo ns i) (requestOf (frameAt ns i)) (requests-words ns words i)
     (rw append-nil at
     (words-before (2 ^ 32) (frameAt ns i) []
-    (numbered-small (2 ^ 32) _ _ _ _ _ _ (words (7 * i + 1)) (words (7 * i + 2)) (words (7 * i + 3)) (words (7 * i + 4))
-    (words (7 * i + 5)) (words (7 * i + 6)) _)
+    (numbered-small (2 ^ 32) _ _ _ _ _ _ (words (callLength * i + 1)) (words (callLength * i + 2)) (words (callLength * i + 3)) (words (callLength * i + 4))
+    (words (callLength * i + 5)) (words (callLength * i + 6)) _)
     tt))
 
 -- a call that does not exist: not all do
@@ -135,23 +146,23 @@ unfolding allMade
 all-next ns i before e = rw (add-one i) (rw (before, e))
 
 -- one call of a list, made or passed over
-module _ (store ns answers : List ℕ) (i : ℕ) (f : Frame) (read : f ≡ frameAt ns i) where
-  pub one-made : (stream : ℕ) (c : Call) (r : Answer) (storeThen answersThen : List ℕ) → f ≡ Made stream c
+module _ (store ns answers : List ℕ) (i : ℕ) {f : Frame} (read : f ≡ frameAt ns i) where
+  pub one-made : {stream : ℕ} {c : Call} {r : Answer} {storeThen answersThen : List ℕ} → f ≡ Made stream c
       → _≡_ {A = StoreOutcome} (record { answer = r; store = storeThen }) (onStore store (record { stream = stream; made = c }))
-      → answersThen ≡ written (4 * i) (numbersOf (r ∷ [])) answers
+      → answersThen ≡ written (answerLength * i) (numbersOf (r ∷ [])) answers
       → (storeThen ≡ storeAfter store (requestOf (frameAt ns i)))
-      × (answersThen ≡ written (4 * i) (numbersOf (answersTo store (requestOf (frameAt ns i)))) answers)
+      × (answersThen ≡ written (answerLength * i) (numbersOf (answersTo store (requestOf (frameAt ns i)))) answers)
   unfolding requestOf storeAfter answersTo
-  one-made stream c r storeThen answersThen made outcome wrote =
+  one-made made outcome wrote =
       rw (sym read ∙ made) (
         ap (λ (o : StoreOutcome). o .store) outcome,
-        wrote ∙ ap (λ (o : StoreOutcome). written (4 * i) (numbersOf (o .answer ∷ [])) answers) outcome,
+        wrote ∙ ap (λ (o : StoreOutcome). written (answerLength * i) (numbersOf (o .answer ∷ [])) answers) outcome,
       )
 
   pub one-passed : f ≡ Bad → (store ≡ storeAfter store (requestOf (frameAt ns i)))
-      × (answers ≡ written (4 * i) (numbersOf (answersTo store (requestOf (frameAt ns i)))) answers)
+      × (answers ≡ written (answerLength * i) (numbersOf (answersTo store (requestOf (frameAt ns i)))) answers)
   unfolding requestOf storeAfter answersTo numbersOf
-  one-passed bad = rw (sym read ∙ bad) (refl, sym (written-nil (4 * i) answers))
+  one-passed bad = rw (sym read ∙ bad) (refl, sym (written-nil (answerLength * i) answers))
 
 -- no call yet
 pub none-made : (store ns answers : List ℕ) → (store ≡ storeAfter store (requestsTo ns 0))
@@ -164,8 +175,8 @@ unfolding allMade
 none-yet ns = refl
 
 -- a list that is none
-pub list-refused : (store ns answers : List ℕ) → isList ns answers ≡ false → Listed store ns answers false store answers
-list-refused store ns answers e =
+pub list-refused : {store ns answers : List ℕ} → isList ns answers ≡ false → Listed store ns answers false store answers
+list-refused e =
     record {
       taken = sym e;
       kept = λ z. (refl, refl);
@@ -175,10 +186,10 @@ list-refused store ns answers e =
     }
 
 -- a list whose calls were made
-pub list-made : (store ns answers storeThen answersThen : List ℕ) → isList ns answers ≡ true → ((k : ℕ) → getD ns k 0 < 2 ^ 32)
+pub list-made : {store ns answers storeThen answersThen : List ℕ} → isList ns answers ≡ true → ((k : ℕ) → getD ns k 0 < 2 ^ 32)
     → storeThen ≡ storeAfter store (requestsTo ns (callsIn ns))
     → answersThen ≡ numbersOf (answersTo store (requestsTo ns (callsIn ns))) → Listed store ns answers true storeThen answersThen
-list-made store ns answers storeThen answersThen e words s a =
+list-made {ns = ns} e words s a =
     record {
       taken = sym e;
       kept = λ z. absurd (never-both true refl z);
@@ -190,14 +201,14 @@ list-made store ns answers storeThen answersThen e words s a =
 
 -- what keeps numbers from being a list of calls
 module _ (ns answers : List ℕ) where
-  pub odd-numbers : (length ns ≡ 7 * (length ns / 7) → ⊥) → isList ns answers ≡ false
+  pub odd-numbers : (length ns ≡ callLength * (length ns / callLength) → ⊥) → isList ns answers ≡ false
   unfolding isList callsIn
-  odd-numbers e = rw (ne-eqb (length ns) (7 * (length ns / 7)) e)
+  odd-numbers e = rw (ne-eqb (length ns) (callLength * (length ns / callLength)) e)
 
-  pub other-room : length ns ≡ 7 * (length ns / 7) → (length answers ≡ 4 * (length ns / 7) → ⊥) → isList ns answers ≡ false
+  pub other-room : length ns ≡ callLength * (length ns / callLength) → (length answers ≡ answerLength * (length ns / callLength) → ⊥) → isList ns answers ≡ false
   unfolding isList callsIn
-  other-room l e = rw (eq-eqb (length ns) (7 * (length ns / 7)) l, ne-eqb (length answers) (4 * (length ns / 7)) e)
+  other-room l e = rw (eq-eqb (length ns) (callLength * (length ns / callLength)) l, ne-eqb (length answers) (answerLength * (length ns / callLength)) e)
 
-  pub by-calls : length ns ≡ 7 * (length ns / 7) → length answers ≡ 4 * (length ns / 7) → isList ns answers ≡ allMade ns (length ns / 7)
+  pub by-calls : length ns ≡ callLength * (length ns / callLength) → length answers ≡ answerLength * (length ns / callLength) → isList ns answers ≡ allMade ns (length ns / callLength)
   unfolding isList callsIn
-  by-calls l e = rw (eq-eqb (length ns) (7 * (length ns / 7)) l, eq-eqb (length answers) (4 * (length ns / 7)) e)
+  by-calls l e = rw (eq-eqb (length ns) (callLength * (length ns / callLength)) l, eq-eqb (length answers) (answerLength * (length ns / callLength)) e)

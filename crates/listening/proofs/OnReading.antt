@@ -9,6 +9,7 @@ use lib.ListN.{length, drop}
 use Rattle.model.specs.declared.Plan.{Plan}
 use Rattle.model.specs.declared.Entry.{Entry}
 use Rattle.model.specs.declared.Figures.{Figures}
+use Rattle.model.specs.Sizes.{mostRecords}
 use Rattle.model.specs.Stations.{unopened, opened, validPlan}
 use Rattle.model.specs.Figuring.{started, figuresOf}
 use Rattle.model.specs.Calls.{admissible}
@@ -72,7 +73,7 @@ module _ (newest : ℕ) (area : List ℕ) (s : Standing) (said : s ≡ standingO
           )
 
 -- what holds of the plan, the entries and the figures of such an area
-module _ {newest : ℕ} (area : List ℕ) (s : Standing) (es : List Entry) (at : OpenedAt newest area s es) where
+module _ {newest : ℕ} {area : List ℕ} {s : Standing} {es : List Entry} (at : OpenedAt newest area s es) where
   pub read-plan : T (validPlan (s .plan))
   read-plan = plan-of (s .plan) es (area-of-reading area (opened (s .plan) es) (at .reads) .0)
 
@@ -82,16 +83,15 @@ module _ {newest : ℕ} (area : List ℕ) (s : Standing) (es : List Entry) (at :
   pub read-area : area ≡ areaOf (opened (s .plan) es)
   read-area = sym (area-of-reading area (opened (s .plan) es) (at .reads) .1)
 
-  pub read-count : s .count ≤ 128
+  pub read-count : s .count ≤ mostRecords
   read-count = omega (arith, at .counted, count-within (s .plan) es read-entries)
 
-pub read-figures : (area : List ℕ) (s : Standing) (es : List Entry) → OpenedAt 0 area s es → FiguresWithin (s .count) (s .figures)
-read-figures area s es at =
-    rw (at .counted, at .brought) (figures-within (s .plan) es (read-plan area s es at) (read-entries area s es at))
+pub read-figures : {area : List ℕ} {s : Standing} {es : List Entry} → OpenedAt 0 area s es → FiguresWithin (s .count) (s .figures)
+read-figures at = rw (at .counted, at .brought) (figures-within _ _ (read-plan at) (read-entries at))
 
 -- ---- the level figures are bytes
 
-pub level-fits : (n : ℕ) (f : Figures) → n ≤ 128 → FiguresWithin n f → LevelFits (f .level)
+pub level-fits : (n : ℕ) (f : Figures) → n ≤ mostRecords → FiguresWithin n f → LevelFits (f .level)
 level-fits n f h known =
     let within = known .levels in
     record { levels = omega arith; rows = omega arith; judgedLots = omega arith; windows = omega arith }
@@ -106,9 +106,9 @@ without-newest p zero es t = t
 without-newest p (suc k) [] t = t
 without-newest p (suc k) (e ∷ es) t = without-newest p k es (newest-of p e es t .others)
 
-pub figures-fit : (newest : ℕ) (area : List ℕ) (s : Standing) (es : List Entry) → OpenedAt newest area s es
+pub figures-fit : {newest : ℕ} {area : List ℕ} {s : Standing} {es : List Entry} → OpenedAt newest area s es
     → LevelFits (s .figures .level)
-figures-fit newest area s es at =
-    let older = without-newest (s .plan) newest es (read-entries area s es at) in
+figures-fit {newest} {area} {s} {es} at =
+    let older = without-newest (s .plan) newest es (read-entries at) in
     rw (at .brought)
-    (level-fits _ _ (count-within (s .plan) (drop newest es) older) (figures-within (s .plan) (drop newest es) (read-plan area s es at) older))
+    (level-fits _ _ (count-within (s .plan) (drop newest es) older) (figures-within (s .plan) (drop newest es) (read-plan at) older))

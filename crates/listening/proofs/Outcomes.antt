@@ -1,13 +1,14 @@
 -- The answers of the code on an area, each as the outcome of the call. Assumes nothing.
 use Prim.Native.Nat.{ℕ, suc, _+_, _-_, _*_, _≤_, _<_}
 use mathlib.Core.Path.{_≡_, refl, sym, ap, _∙_}
-use mathlib.Core.Bool.{Bool, false}
+use mathlib.Core.Bool.{Bool, true, false}
 use mathlib.Core.List.{List, [], _∷_, append-assoc}
 use native.Mathlib.Omega.{arith}
 use lib.Dec.{T}
 use borrow.Author.Tests.{ne-eqb, not-false}
-use lib.ListN.{length, drop}
+use lib.ListN.{length}
 use Rattle.little.specs.Little.{written}
+use Rattle.plans.specs.Limits.{largestLot}
 use Rattle.model.specs.declared.Plan.{Plan}
 use Rattle.model.specs.declared.Entry.{Entry}
 use Rattle.model.specs.declared.Entry.the-variants.{Lot, Run, Block, Stop}
@@ -17,7 +18,7 @@ use Rattle.model.specs.declared.Figures.{Figures}
 use Rattle.model.specs.declared.Answer.{Answer}
 use Rattle.model.specs.Sizes.{recordLength, mostRecords}
 use Rattle.records.specs.declared.Record.{Record}
-use Rattle.records.specs.Records.{recordIn, recordAt}
+use Rattle.records.specs.Records.{recordIn, recordAt, figuresStart}
 use Rattle.model.specs.Stations.{Station, unopened, opened, validPlan, isContinuous}
 use Rattle.model.specs.Figuring.{sampleAsked, stepped, started, figuresOf}
 use Rattle.model.specs.Calls.{
@@ -45,34 +46,29 @@ use Rattle.model.specs.Area.{
   recordOf,
   recordsOf,
   areaOf,
-  entriesIn,
-  unsound,
   holds,
   reading,
   AreaOutcome,
   onArea,
 }
-use Rattle.model.proofs.Booleans.{both-true}
 use Rattle.model.proofs.Allowed.{room-for, passed, allowed-run, allowed-block, allowed-stop}
 use Rattle.model.proofs.FigureBounds.{lot-size-range}
 use Rattle.model.proofs.AreaReading.{area-of-reading, part-record, records-in}
 use Rattle.model.proofs.Keeping.{accepted-station, accepted-answer, valid-opens}
 use Rattle.model.proofs.OnArea.{on-station, on-unsound, refused-station}
 use Rattle.replay.specs.declared.Standing.{Standing}
+use Rattle.replay.specs.Standing.{standingOf}
 use Rattle.listening.specs.Written.{rewritten, flagOf, FlagFits}
 use Rattle.listening.proofs.Rewriting.{entered-area, taken-area, opened-area}
-use Rattle.listening.proofs.OnReading.{OpenedAt, read-area, read-count}
+use Rattle.listening.proofs.OnReading.{OpenedAt, read-unsound, read-unopened, read-area, read-count}
 
 -- an answer, and the area after it
 abbrev pub leaves : Answer → List ℕ → AreaOutcome
 leaves r area = record { answer = r; area = area }
 
 module _ (area : List ℕ) (c : Call) (r : Answer) where
-  pub by-unsound : reading area ≡ unsound → r ≡ refused 3 → leaves r area ≡ onArea area c
-  by-unsound e given = ap (λ (a : Answer). leaves a area) given ∙ sym (on-unsound area c e)
-
   -- a refusal on a station that the area holds
-  pub by-refusal : (st : Station) (n : ℕ) → reading area ≡ holds st → n ≡ refusalOf st c → (n ≡ 0 → ⊥) → r ≡ refused n
+  by-refusal : (st : Station) (n : ℕ) → reading area ≡ holds st → n ≡ refusalOf st c → (n ≡ 0 → ⊥) → r ≡ refused n
       → leaves r area ≡ onArea area c
   by-refusal st n e same applies given =
       let kept = refused-station st c (λ z. applies (same ∙ z)) in
@@ -80,35 +76,39 @@ module _ (area : List ℕ) (c : Call) (r : Answer) where
       ∙ sym (on-station area st c e ∙ rw (kept .0, kept .1, area-of-reading area st e .1))
 
   -- an accepted call
-  pub by-call : (st : Station) (after : List ℕ) → reading area ≡ holds st → refusalOf st c ≡ 0 → r ≡ answerOf st c
+  by-call : (st : Station) (after : List ℕ) → reading area ≡ holds st → refusalOf st c ≡ 0 → r ≡ answerOf st c
       → after ≡ areaOf (changed st c) → leaves r after ≡ onArea area c
   by-call st after e taken given left =
       rw (given, left) (sym (on-station area st c e ∙ rw (accepted-answer st c taken, accepted-station st c taken)))
 
--- a call on an unopened stream that is no Open
-pub by-unopened : (area : List ℕ) (c : Call) (r : Answer) → refusalOf unopened c ≡ 6 → reading area ≡ holds unopened → r ≡ refused 6
-    → leaves r area ≡ onArea area c
-by-unopened area c r six e given = by-refusal area c r unopened 6 e (sym six) (λ z. omega arith) given
+-- the refusals that come first: 3, and 6 for a call that is no Open
+module _ (newest : ℕ) (area : List ℕ) (s : Standing) (said : s ≡ standingOf newest (reading area)) (c : Call) {r : Answer} where
+  pub by-unsound : s .sound ≡ false → r ≡ refused 3 → leaves r area ≡ onArea area c
+  by-unsound fails given = ap (λ (a : Answer). leaves a area) given ∙ sym (on-unsound area c (read-unsound newest area s said fails))
+
+  pub by-unopened : refusalOf unopened c ≡ 6 → s .sound ≡ true → s .opened ≡ false → r ≡ refused 6 → leaves r area ≡ onArea area c
+  by-unopened six sound shut given = by-refusal area c r unopened 6 (read-unopened newest area s said sound shut) (sym six) (λ z. omega arith) given
 
 -- Open
-module _ (area : List ℕ) (plan : Plan) (r : Answer) where
-  pub open-invalid : (valid : Bool) → reading area ≡ holds unopened → valid ≡ validPlan plan → valid ≡ false → r ≡ refused 5
+module _ (area : List ℕ) (plan : Plan) {r : Answer} where
+  pub open-invalid : {valid : Bool} → reading area ≡ holds unopened → valid ≡ validPlan plan → valid ≡ false → r ≡ refused 5
       → leaves r area ≡ onArea area (Open plan)
   unfolding refusalOf refusals firstOf
-  open-invalid valid e same fails given =
+  open-invalid e same fails given =
       by-refusal area (Open plan) r unopened 5 e (rw (sym same ∙ fails)) (λ z. omega arith) given
 
-  pub open-made : (after : List ℕ) → reading area ≡ holds unopened → T (validPlan plan) → r ≡ gives 0 0 0
-      → after ≡ written 16 (figureBytes (started plan)) (written 0 (planBytes plan 0) area) → leaves r after ≡ onArea area (Open plan)
+  pub open-made : {f : Figures} {planned after : List ℕ} → reading area ≡ holds unopened → T (validPlan plan) → r ≡ gives 0 0 0
+      → planned ≡ written 0 (planBytes plan 0) area → f ≡ started plan → after ≡ written figuresStart (figureBytes f) planned
+      → leaves r after ≡ onArea area (Open plan)
   unfolding answerOf changed
-  open-made after e valid given left =
+  open-made {after = after} e valid given plans starts left =
       by-call area (Open plan) r unopened after e (valid-opens plan valid) given
-      (left ∙ rw (sym (area-of-reading area unopened e .1)) (opened-area plan))
+      (left ∙ rw (starts, plans, sym (area-of-reading area unopened e .1)) (opened-area plan))
 
-module _ (area : List ℕ) (s : Standing) (es : List Entry) (at : OpenedAt 0 area s es) (r : Answer) where
-  pub open-again : (plan : Plan) → r ≡ refused 4 → leaves r area ≡ onArea area (Open plan)
+module _ {area : List ℕ} {s : Standing} {es : List Entry} (at : OpenedAt 0 area s es) where
+  pub open-again : (plan : Plan) {r : Answer} → r ≡ refused 4 → leaves r area ≡ onArea area (Open plan)
   unfolding refusalOf refusals firstOf
-  open-again plan given = by-refusal area (Open plan) r (opened (s .plan) es) 4 (at .reads) refl (λ z. omega arith) given
+  open-again plan {r} given = by-refusal area (Open plan) r (opened (s .plan) es) 4 (at .reads) refl (λ z. omega arith) given
 
   -- Lot, Run, Block, Stop
   refusal-of : (e : Entry) (n : ℕ) → n ≡ firstOf (entryRefusals (s .plan) (s .figures) (s .count) e)
@@ -116,50 +116,50 @@ module _ (area : List ℕ) (s : Standing) (es : List Entry) (at : OpenedAt 0 are
   unfolding refusalOf refusals
   refusal-of e n same = rw (← at .counted, ← at .brought) same
 
-  pub enter-refused : (e : Entry) (n : ℕ) → n ≡ firstOf (entryRefusals (s .plan) (s .figures) (s .count) e) → (n ≡ 0 → ⊥)
+  pub enter-refused : (e : Entry) {n : ℕ} {r : Answer} → n ≡ firstOf (entryRefusals (s .plan) (s .figures) (s .count) e) → (n ≡ 0 → ⊥)
       → r ≡ refused n → leaves r area ≡ onArea area (Enter e)
-  enter-refused e n same applies given =
+  enter-refused e {n} {r} same applies given =
       by-refusal area (Enter e) r (opened (s .plan) es) n (at .reads) (refusal-of e n same) applies given
 
-  pub entered : (e : Entry) (n : ℕ) (after : List ℕ) (g : Figures)
+  pub entered : (e : Entry) {n : ℕ} {r : Answer} {after : List ℕ} {g : Figures}
       → n ≡ firstOf (entryRefusals (s .plan) (s .figures) (s .count) e) → n ≡ 0
       → g ≡ stepped (s .plan) e (s .figures) → r ≡ entryAnswer (s .plan) (s .figures) e
       → after ≡ rewritten (s .count) (recordOf e) (s .count + 1) g area → leaves r after ≡ onArea area (Enter e)
   unfolding answerOf changed figuresOf
-  entered e n after g same none stepped-on given left =
+  entered e {n} {r} {after} same none stepped-on given left =
       by-call area (Enter e) r (opened (s .plan) es) after (at .reads) (sym (refusal-of e n same) ∙ none)
       (rw (← at .brought) given)
       (left
-      ∙ rw (stepped-on, at .brought, at .counted, read-area area s es at)
+      ∙ rw (stepped-on, at .brought, at .counted, read-area at)
       (entered-area (s .plan) e es
       (room-for (s .plan) (figuresOf (s .plan) es) (length es) e (rw (at .brought, at .counted) at (sym same ∙ none)))))
 
   -- Ask
-  pub ask-refused : (size n : ℕ) → n ≡ firstOf (askRefusals (s .plan) (s .figures) size) → (n ≡ 0 → ⊥) → r ≡ refused n
+  pub ask-refused : (size : ℕ) {n : ℕ} {r : Answer} → n ≡ firstOf (askRefusals (s .plan) (s .figures) size) → (n ≡ 0 → ⊥) → r ≡ refused n
       → leaves r area ≡ onArea area (Ask size)
   unfolding refusalOf refusals
-  ask-refused size n same applies given =
+  ask-refused size {n} {r} same applies given =
       by-refusal area (Ask size) r (opened (s .plan) es) n (at .reads) (rw (← at .brought) same) applies given
 
-  pub asked : (size n : ℕ) → n ≡ firstOf (askRefusals (s .plan) (s .figures) size) → n ≡ 0
+  pub asked : (size : ℕ) {n : ℕ} {r : Answer} → n ≡ firstOf (askRefusals (s .plan) (s .figures) size) → n ≡ 0
       → r ≡ gives (sampleAsked (s .plan) (s .figures) size) 0 0 → leaves r area ≡ onArea area (Ask size)
   unfolding refusalOf refusals answerOf changed
-  asked size n same none given =
+  asked size {n} {r} same none given =
       by-call area (Ask size) r (opened (s .plan) es) area (at .reads) (rw (← at .brought) (sym same ∙ none))
       (rw (← at .brought) given)
-      (read-area area s es at)
+      (read-area at)
 
   -- Read
-  pub has-read : r ≡ gives (s .count) (s .figures .accepted) (readFigure (s .plan) (s .figures)) → leaves r area ≡ onArea area Read
+  pub has-read : {r : Answer} → r ≡ gives (s .count) (s .figures .accepted) (readFigure (s .plan) (s .figures)) → leaves r area ≡ onArea area Read
   unfolding refusalOf refusals firstOf answerOf changed
-  has-read given =
-      by-call area Read r (opened (s .plan) es) area (at .reads) refl (rw (← at .counted, ← at .brought) given) (read-area area s es at)
+  has-read {r} given =
+      by-call area Read r (opened (s .plan) es) area (at .reads) refl (rw (← at .counted, ← at .brought) given) (read-area at)
 
 -- Back
-pub back-none : (area : List ℕ) (s : Standing) (es : List Entry) → OpenedAt 1 area s es → (r : Answer) → s .count ≡ 0
+pub back-none : {area : List ℕ} {s : Standing} {es : List Entry} → OpenedAt 1 area s es → {r : Answer} → s .count ≡ 0
     → r ≡ refused 16 → leaves r area ≡ onArea area Back
 unfolding refusalOf refusals firstOf
-back-none area s es at r none given =
+back-none {area} {s} {es} at {r} none given =
     by-refusal area Back r (opened (s .plan) es) 16 (at .reads) (rw (sym (at .counted) ∙ none)) (λ z. omega arith) given
 
 kind-read : (e : Entry) → recordIn (recordOf e) .kind ≡ kindOf e
@@ -170,7 +170,7 @@ kind-read (Block q w) = refl
 kind-read (Stop why days) = refl
 
 -- the newest record of an area
-newest-record : (p : Plan) (e : Entry) (es : List Entry) → length es < 128
+newest-record : (p : Plan) (e : Entry) (es : List Entry) → length es < mostRecords
     → recordIn (recordAt (areaOf (opened p (e ∷ es))) (length es)) .kind ≡ kindOf e
 unfolding recordAt recordsOf
 newest-record p e es room =
@@ -179,21 +179,21 @@ newest-record p e es room =
     (records-in p (e ∷ es) (omega arith), append-assoc (recordsOf es) (recordOf e) rest, part-record e es rest)
     (kind-read e)
 
-pub back-taken : (area : List ℕ) (s : Standing) (es : List Entry) → OpenedAt 1 area s es
-    → (last : ℕ) (taken : Record) (r : Answer) (after : List ℕ) → (s .count ≡ 0 → ⊥) → last ≡ s .count - 1
+pub back-taken : {area : List ℕ} {s : Standing} {es : List Entry} → OpenedAt 1 area s es
+    → {last : ℕ} {taken : Record} {r : Answer} {after : List ℕ} → (s .count ≡ 0 → ⊥) → last ≡ s .count - 1
     → taken ≡ recordIn (recordAt area last)
     → r ≡ gives (taken .kind) 0 0 → after ≡ rewritten last (zeros recordLength) last (s .figures) area
     → leaves r after ≡ onArea area Back
 unfolding refusalOf refusals firstOf answerOf changed newestKind withoutNewest
-back-taken area s [] at last taken r after some ended read given left = absurd (some (at .counted))
-back-taken area s (e ∷ es) at last taken r after some ended read given left =
+back-taken {area} {s} {es = []} at {last} {taken} {r} {after} some ended read given left = absurd (some (at .counted))
+back-taken {area} {s} {es = e ∷ es} at {last} {taken} {r} {after} some ended read given left =
     let ends : last ≡ length es = omega (arith, at .counted) in
-    let room : length es < 128 = omega (arith, read-count area s (e ∷ es) at, at .counted) in
+    let room : length es < mostRecords = omega (arith, read-count at, at .counted) in
     let told : taken .kind ≡ kindOf e =
-    ap (λ (x : Record). x .kind) read ∙ rw (ends, read-area area s (e ∷ es) at) (newest-record (s .plan) e es room) in
+    ap (λ (x : Record). x .kind) read ∙ rw (ends, read-area at) (newest-record (s .plan) e es room) in
     by-call area Back r (opened (s .plan) (e ∷ es)) after (at .reads) (rw (ne-eqb (suc (length es)) 0 (λ z. omega arith)))
     (given ∙ ap (λ (k : ℕ). gives k 0 0) told)
-    (left ∙ rw (ends, at .brought, read-area area s (e ∷ es) at) (taken-area (s .plan) e es room))
+    (left ∙ rw (ends, at .brought, read-area at) (taken-area (s .plan) e es room))
 
 -- the flag of an accepted entry is a byte
 pub flag-fits : (p : Plan) (f : Figures) (n : ℕ) (e : Entry) → firstOf (entryRefusals p f n e) ≡ 0 → FlagFits e
@@ -205,7 +205,7 @@ flag-fits p f n (Stop why days) z = omega (arith, allowed-stop p f n why days z 
 
 -- what an ask that is not refused is known to be
 pub allowed-ask : (p : Plan) (f : Figures) (N : ℕ) → firstOf (askRefusals p f N) ≡ 0
-    → (isContinuous p ≡ false) × (1 ≤ N) × (N ≤ 1000000)
+    → (isContinuous p ≡ false) × (1 ≤ N) × (N ≤ largestLot)
 unfolding askRefusals
 allowed-ask p f N z =
     let seven = passed 7 _ _ (omega arith) z in

@@ -1,13 +1,12 @@
--- What the writes of a call make of an area: one entry more, one entry less, a stream opened; and a part that was lent.
--- Assumes nothing.
-use Prim.Native.Nat.{ℕ, suc, _+_, _-_, _*_, _≤_, _<_}
+-- What the writes of a call make of an area: one entry more, one entry less, a stream opened. Assumes nothing.
+use Prim.Native.Nat.{ℕ, suc, _+_, _-_, _*_, _<_}
 use mathlib.Core.Path.{_≡_, refl, sym, _∙_}
 use mathlib.Core.List.{List, [], _∷_, _++_, append-assoc}
 use native.Mathlib.Numerals.{add-one}
 use native.Mathlib.Omega.{arith}
-use lib.ListN.{length, take, drop, length-append, replicate-append-replicate}
+use lib.ListN.{length, drop, length-append, replicate-append-replicate}
 use lib.Seq.{take-at, drop-at, drop-drop}
-use Rattle.little.specs.Little.{bytes, part, written}
+use Rattle.little.specs.Little.{bytes, written}
 use Rattle.model.specs.declared.Plan.{Plan}
 use Rattle.model.specs.declared.Entry.{Entry}
 use Rattle.model.specs.declared.Figures.{Figures}
@@ -16,10 +15,11 @@ use Rattle.model.specs.Stations.{unopened, opened}
 use Rattle.model.specs.Figuring.{started, figuresOf}
 use Rattle.model.specs.Area.{zeros, planBytes, figureBytes, recordOf, recordsOf, areaOf}
 use Rattle.model.proofs.AreaReading.{length-record, length-records, length-plan-bytes, length-figure-bytes}
+use Rattle.records.specs.Records.{countStart, figuresStart}
 use Rattle.listening.specs.Written.{rewritten}
 
 -- a write over x, between a and z
-pub written-at : (at : ℕ) (a x z b : List ℕ) → length a ≡ at → length x ≡ length b → written at b (a ++ (x ++ z)) ≡ a ++ (b ++ z)
+written-at : (at : ℕ) (a x z b : List ℕ) → length a ≡ at → length x ≡ length b → written at b (a ++ (x ++ z)) ≡ a ++ (b ++ z)
 unfolding written
 written-at at a x z b la lx =
     let behind : drop (at + length b) (a ++ (x ++ z)) ≡ z =
@@ -29,7 +29,7 @@ written-at at a x z b la lx =
 -- ---- an area's record, count and figures
 
 -- a write of the count in the plan's bytes
-count-written : (p : Plan) (m n : ℕ) (z : List ℕ) → written 2 (bytes 2 n) (planBytes p m ++ z) ≡ planBytes p n ++ z
+count-written : (p : Plan) (m n : ℕ) (z : List ℕ) → written countStart (bytes 2 n) (planBytes p m ++ z) ≡ planBytes p n ++ z
 unfolding written planBytes bytes
 count-written p m n z = refl
 
@@ -45,12 +45,12 @@ module _ (p : Plan) (i m : ℕ) (f : Figures) (s x r z : List ℕ)
       simp append-assoc at (written-at _ front x z r before (lx ∙ sym lr))
 
   -- the count m becomes n too, and the figures f become g
-  pub rewritten-area : (n : ℕ) (g : Figures)
+  rewritten-area : (n : ℕ) (g : Figures)
       → rewritten i r n g (planBytes p m ++ (figureBytes f ++ (s ++ (x ++ z)))) ≡ planBytes p n ++ (figureBytes g ++ (s ++ (r ++ z)))
   unfolding rewritten
   rewritten-area n g =
       let same : length (figureBytes f) ≡ length (figureBytes g) = length-figure-bytes f ∙ sym (length-figure-bytes g) in
-      let figured = written-at 16 (planBytes p n) (figureBytes f) (s ++ (r ++ z)) (figureBytes g) (length-plan-bytes p n) same in
+      let figured = written-at figuresStart (planBytes p n) (figureBytes f) (s ++ (r ++ z)) (figureBytes g) (length-plan-bytes p n) same in
       rw (recorded, count-written p m n, figured)
 
 -- what is unused behind n records
@@ -97,19 +97,6 @@ module _ (p : Plan) (e : Entry) (es : List Entry) (room : length es < mostRecord
 -- ---- a stream is opened
 
 -- the plan, then the figures, over an area of zeros
-pub opened-area : (p : Plan) → written 16 (figureBytes (started p)) (written 0 (planBytes p 0) (areaOf unopened)) ≡ areaOf (opened p [])
+pub opened-area : (p : Plan) → written figuresStart (figureBytes (started p)) (written 0 (planBytes p 0) (areaOf unopened)) ≡ areaOf (opened p [])
 unfolding written areaOf planBytes figureBytes bytes recordsOf figuresOf
 opened-area p = refl
-
--- ---- a part that was lent
-
--- a part that came back as ys is a write
-pub lent-back : (a e : ℕ) (ys xs : List ℕ) → a ≤ e → e ≤ length xs → length ys ≡ e - a
-    → take a xs ++ (ys ++ drop (e - a) (drop a xs)) ≡ written a ys xs
-unfolding written
-lent-back a e ys xs from to l = rw (drop-drop, l)
-
--- what is lent is a part
-pub entry-of-lent : (a e : ℕ) (xs : List ℕ) → take (e - a) (drop a xs) ≡ part a (e - a) xs
-unfolding part
-entry-of-lent a e xs = refl

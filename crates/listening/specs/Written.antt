@@ -11,14 +11,15 @@ use Rattle.model.specs.declared.Figures.{Figures}
 use Rattle.model.specs.Sizes.{recordLength, headerLength}
 use Rattle.model.specs.Calls.{firstOf, entryRefusals}
 use Rattle.model.specs.Area.{figureBytes, reading}
+use Rattle.records.specs.Records.{countStart, figuresStart}
 use Rattle.replay.specs.declared.Standing.{Standing}
 use Rattle.replay.specs.Standing.{standingOf}
 
 -- the i-th record, then the count, then the figures
 unfoldable pub rewritten : ℕ → List ℕ → ℕ → Figures → List ℕ → List ℕ
 rewritten i bytesOfRecord count figures area =
-    written 16 (figureBytes figures)
-    (written 2 (bytes 2 count) (written (headerLength + recordLength * i) bytesOfRecord area))
+    written figuresStart (figureBytes figures)
+    (written countStart (bytes 2 count) (written (headerLength + recordLength * i) bytesOfRecord area))
 
 -- the number that an entry's record holds as its flag is a byte
 unfoldable pub flagOf : Entry → ℕ

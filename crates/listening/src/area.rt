@@ -9,7 +9,7 @@ ghost use Rattle.model.specs.Sizes.{areaLength, recordLength, headerLength, mos
 ghost use Rattle.model.specs.Stations.{entryArguments, allWords};
 ghost use Rattle.model.specs.Figuring.{stepped};
 ghost use Rattle.model.specs.Area.{zeros, figureBytes, recordOf, onArea};
-ghost use Rattle.records.specs.Records.{LevelFits};
+ghost use Rattle.records.specs.Records.{countStart, figuresStart, LevelFits};
 ghost use Rattle.listening.specs.Written.{rewritten, FlagFits, Takes};
 use model::Answer;
 use model::Call;
@@ -79,7 +79,7 @@ fn enter(area: &mut [u8], entry: Entry) -> Answer
     answering::entry(plan, figures, after, count, entry)
 }
 
-// Takes the newest entry back.
+// Takes the newest entry back. The reading sets it apart, and hands over the figures before it: they can't be had from those after.
 fn take_back(area: &mut [u8]) -> Answer
     requires { ⌜ length (now area) ≡ areaLength ⌝ }
     ensures { λ r. ⌜ record { answer = r; area = now (area .exit) } ≡ onArea (now (area .entry)) Back ⌝ }
@@ -100,7 +100,7 @@ fn take_back(area: &mut [u8]) -> Answer
     answering::gives(taken.kind as u32, 0, 0)
 }
 
-// The sample that a lot asks for.
+// The sample that a lot asks for. Ask and Read borrow the area with `&`, so that they can't write.
 pub fn ask(area: &[u8], size: u32) -> Answer
     requires { ⌜ length (now area) ≡ areaLength ⌝ }
     ensures { λ r. ⌜ record { answer = r; area = now (area .entry) } ≡ onArea (now (area .entry)) (Ask size) ⌝ }
@@ -167,7 +167,7 @@ fn clear_entry(area: &mut [u8], last: usize, figures: Figures)
 // Writes the count of standing records, and the figures after them.
 fn put_standing(area: &mut [u8], count: usize, figures: Figures)
     requires { ⌜ (length (now area) ≡ areaLength) × (count ≤ mostRecords) × LevelFits (figures .level) ⌝ }
-    ensures { λ _. ⌜ now (area .exit) ≡ written 16 (figureBytes figures) (written 2 (bytes 2 count) (now (area .entry))) ⌝ }
+    ensures { λ _. ⌜ now (area .exit) ≡ written figuresStart (figureBytes figures) (written countStart (bytes 2 count) (now (area .entry))) ⌝ }
 {
     records::put_count(area, count);
     records::put_figures(area, figures);

@@ -35,9 +35,9 @@ pub fn lot(
     size: u32,
     sample: u32,
     wrong: u32,
-    all: u32,
+    wrong_in_all: u32,
 ) -> Answer
-    ensures { λ r. ⌜ record { answer = r; store = now (store .exit) } ≡ onStore (now (store .entry)) (on stream (Enter (Lot label size sample wrong all))) ⌝ }
+    ensures { λ r. ⌜ record { answer = r; store = now (store .exit) } ≡ onStore (now (store .entry)) (on stream (Enter (Lot label size sample wrong «wrong_in_all»))) ⌝ }
 {
     make(
         store,
@@ -47,7 +47,7 @@ pub fn lot(
             size,
             sample,
             wrong,
-            wrong_in_all: all,
+            wrong_in_all,
         }),
     )
 }

@@ -7,7 +7,7 @@ ghost use lib.ListN.{length};
 ghost use Rattle.little.specs.Little.{written};
 ghost use Rattle.model.specs.Store.{storeAfter, answersTo};
 ghost use Rattle.frame_text.specs.Program.{requestOf};
-ghost use Rattle.listening.specs.Lists.{frameAt, isMade, allMade, requestsTo, numbersOf, Listed};
+ghost use Rattle.listening.specs.Lists.{callLength, answerLength, frameAt, isMade, allMade, requestsTo, numbersOf, Listed};
 use crate::make;
 use frame_text::Frame;
 use model::Answer;
@@ -37,9 +37,9 @@ pub fn list(store: &mut [u8], calls: &[u32], answers: &mut [u32]) -> bool
     true
 }
 
-// Whether each of the first calls exists.
+// Whether each of the first calls exists. It is asked of all before any is made, so that numbers that are no list change nothing.
 fn are_made(calls: &[u32], count: usize) -> bool
-    requires { ⌜ 7 * count ≤ length (now calls) ⌝ }
+    requires { ⌜ callLength * count ≤ length (now calls) ⌝ }
     ensures { λ r. ⌜ r ≡ allMade (now (calls .entry)) count ⌝ }
 {
     let mut i = 0;
@@ -54,7 +54,7 @@ fn are_made(calls: &[u32], count: usize) -> bool
 
 // Makes the first calls.
 fn make_all(store: &mut [u8], calls: &[u32], count: usize, answers: &mut [u32])
-    requires { ⌜ (7 * count ≤ length (now calls)) × (length (now answers) ≡ 4 * count) × (allMade (now calls) count ≡ true) ⌝ }
+    requires { ⌜ (callLength * count ≤ length (now calls)) × (length (now answers) ≡ answerLength * count) × (allMade (now calls) count ≡ true) ⌝ }
     ensures { λ _. ⌜ (now (store .exit) ≡ storeAfter (now (store .entry)) (requestsTo (now (calls .entry)) count)) × (now (answers .exit) ≡ numbersOf (answersTo (now (store .entry)) (requestsTo (now (calls .entry)) count))) ⌝ }
 {
     let mut i = 0;
@@ -64,10 +64,11 @@ fn make_all(store: &mut [u8], calls: &[u32], count: usize, answers: &mut [u32])
     }
 }
 
-// Makes the i-th call, from 0, and writes its answer in its place.
+// Makes the i-th call, from 0, and writes its answer in its place. `are_made` has ruled out a bad one; this function is proved without
+// that, so that its contract asks for no more than room.
 fn make_one(store: &mut [u8], calls: &[u32], i: usize, answers: &mut [u32])
-    requires { ⌜ (7 * i + 7 ≤ length (now calls)) × (4 * i + 4 ≤ length (now answers)) ⌝ }
-    ensures { λ _. ⌜ (now (store .exit) ≡ storeAfter (now (store .entry)) (requestOf (frameAt (now (calls .entry)) i))) × (now (answers .exit) ≡ written (4 * i) (numbersOf (answersTo (now (store .entry)) (requestOf (frameAt (now (calls .entry)) i)))) (now (answers .entry))) ⌝ }
+    requires { ⌜ (callLength * i + callLength ≤ length (now calls)) × (answerLength * i + answerLength ≤ length (now answers)) ⌝ }
+    ensures { λ _. ⌜ (now (store .exit) ≡ storeAfter (now (store .entry)) (requestOf (frameAt (now (calls .entry)) i))) × (now (answers .exit) ≡ written (answerLength * i) (numbersOf (answersTo (now (store .entry)) (requestOf (frameAt (now (calls .entry)) i)))) (now (answers .entry))) ⌝ }
 {
     let frame = frame_at(calls, i);
     match frame {
@@ -80,7 +81,7 @@ fn make_one(store: &mut [u8], calls: &[u32], i: usize, answers: &mut [u32])
 }
 
 fn frame_at(calls: &[u32], i: usize) -> Frame
-    requires { ⌜ 7 * i + 7 ≤ length (now calls) ⌝ }
+    requires { ⌜ callLength * i + callLength ≤ length (now calls) ⌝ }
     ensures { λ r. ⌜ r ≡ frameAt (now (calls .entry)) i ⌝ }
 {
     let at = CALL_LENGTH * i;
@@ -105,8 +106,8 @@ fn is_made(frame: Frame) -> bool
 }
 
 fn put_answer(answers: &mut [u32], i: usize, answer: Answer)
-    requires { ⌜ 4 * i + 4 ≤ length (now answers) ⌝ }
-    ensures { λ _. ⌜ now (answers .exit) ≡ written (4 * i) (numbersOf (answer ∷ [])) (now (answers .entry)) ⌝ }
+    requires { ⌜ answerLength * i + answerLength ≤ length (now answers) ⌝ }
+    ensures { λ _. ⌜ now (answers .exit) ≡ written (answerLength * i) (numbersOf (answer ∷ [])) (now (answers .entry)) ⌝ }
 {
     let at = ANSWER_LENGTH * i;
     answers[at] = answer.refusal;

@@ -32,11 +32,11 @@ pub extern "C" fn listening_lot(
     size: u32,
     sample: u32,
     wrong: u32,
-    all: u32,
+    wrong_in_all: u32,
 ) -> Answer
-    ensures { λ r. ⌜ record { answer = r; store = now (store .exit) } ≡ onStore (now (store .entry)) (on stream (Enter (Lot label size sample wrong all))) ⌝ }
+    ensures { λ r. ⌜ record { answer = r; store = now (store .exit) } ≡ onStore (now (store .entry)) (on stream (Enter (Lot label size sample wrong «wrong_in_all»))) ⌝ }
 {
-    listening::lot(store, stream, label, size, sample, wrong, all)
+    listening::lot(store, stream, label, size, sample, wrong, wrong_in_all)
 }
 
 #[no_mangle]

@@ -27,6 +27,14 @@ recordIn r =
 unfoldable pub recordAt : List ℕ → ℕ → List ℕ
 recordAt area i = part (recordLength * i) recordLength (part headerLength (recordLength * mostRecords) area)
 
+-- where the count of standing records stands in an area, and where its figures start; `planBytes` has the one, and is as long as the
+-- other
+abbrev pub countStart : ℕ
+countStart = 2
+
+abbrev pub figuresStart : ℕ
+figuresStart = 16
+
 -- bytes 16 to 23: credit; level, row, lots judged on tightened, withheld marks
 unfoldable pub levelBytes : ℕ → LevelState → List ℕ
 levelBytes credit s = bytes 4 credit ++ (s .level ∷ s .row ∷ s .judged ∷ s .window ∷ [])

@@ -8,7 +8,7 @@ ghost use lib.ListN.{length, drop};
 ghost use Rattle.little.specs.Little.{bytes, part, written};
 ghost use Rattle.model.specs.Sizes.{recordLength, headerLength, mostRecords, areaLength};
 ghost use Rattle.model.specs.Area.{zeros, planBytes, figureBytes, recordBytes, planIn, countIn};
-ghost use Rattle.records.specs.Records.{recordIn, recordAt, levelBytes, continuousBytes, LevelFits, Decides, ZeroBetween};
+ghost use Rattle.records.specs.Records.{recordIn, recordAt, countStart, figuresStart, levelBytes, continuousBytes, LevelFits, Decides, ZeroBetween};
 use model::Figures;
 use model::Plan;
 use model::sizes::AREA_LENGTH;
@@ -56,7 +56,7 @@ pub fn put_record(area: &mut [u8], i: usize, kind: u8, flag: u8, a: u32, b: u32,
     ensures { λ _. ⌜ now (area .exit) ≡ written (headerLength + recordLength * i) (recordBytes kind flag a b c d) (now (area .entry)) ⌝ }
 {
     let at = HEADER_LENGTH + RECORD_LENGTH * i;
-    put_marks(area, at, kind, flag);
+    put_kind(area, at, kind, flag);
     little::put_u32(area, at + 4, a);
     little::put_u32(area, at + 8, b);
     little::put_u32(area, at + 12, c);
@@ -97,7 +97,7 @@ pub fn put_plan(area: &mut [u8], plan: Plan)
     requires { ⌜ (length (now area) ≡ areaLength) × (plan .kind < 256) × (plan .option < 256) × (plan .b < 65536) ⌝ }
     ensures { λ _. ⌜ now (area .exit) ≡ written 0 (planBytes plan 0) (now (area .entry)) ⌝ }
 {
-    put_marks(area, 0, plan.kind as u8, plan.option as u8);
+    put_kind(area, 0, plan.kind as u8, plan.option as u8);
     little::put_u32(area, 4, plan.a);
     little::put_u16(area, 8, plan.b as u16);
     little::put_u16(area, 10, 0);
@@ -107,7 +107,7 @@ pub fn put_plan(area: &mut [u8], plan: Plan)
 // Writes the count of standing records.
 pub fn put_count(area: &mut [u8], count: usize)
     requires { ⌜ (length (now area) ≡ areaLength) × (count < 65536) ⌝ }
-    ensures { λ _. ⌜ now (area .exit) ≡ written 2 (bytes 2 count) (now (area .entry)) ⌝ }
+    ensures { λ _. ⌜ now (area .exit) ≡ written countStart (bytes 2 count) (now (area .entry)) ⌝ }
 {
     little::put_u16(area, 2, count as u16);
 }
@@ -115,7 +115,7 @@ pub fn put_count(area: &mut [u8], count: usize)
 // Writes the figures: bytes 16 to 47.
 pub fn put_figures(area: &mut [u8], figures: Figures)
     requires { ⌜ (length (now area) ≡ areaLength) × LevelFits (figures .level) ⌝ }
-    ensures { λ _. ⌜ now (area .exit) ≡ written 16 (figureBytes figures) (now (area .entry)) ⌝ }
+    ensures { λ _. ⌜ now (area .exit) ≡ written figuresStart (figureBytes figures) (now (area .entry)) ⌝ }
 {
     let credit = figures.credit;
     let level = figures.level;
@@ -188,13 +188,14 @@ fn is_zero_in(area: &[u8], from: usize, to: usize) -> bool
     most == 0
 }
 
-// Writes two bytes, and two zeros behind them: how a plan and a record start.
-fn put_marks(area: &mut [u8], at: usize, first: u8, second: u8)
+// Writes the start of a plan or of a record: its kind, a plan's option or a record's flag, and two zeros, which are the count where a
+// stream is opened.
+fn put_kind(area: &mut [u8], at: usize, kind: u8, beside: u8)
     requires { ⌜ at + 4 ≤ length (now area) ⌝ }
-    ensures { λ _. ⌜ now (area .exit) ≡ written at (first ∷ second ∷ 0 ∷ 0 ∷ []) (now (area .entry)) ⌝ }
+    ensures { λ _. ⌜ now (area .exit) ≡ written at (kind ∷ beside ∷ 0 ∷ 0 ∷ []) (now (area .entry)) ⌝ }
 {
-    area[at] = first;
-    area[at + 1] = second;
+    area[at] = kind;
+    area[at + 1] = beside;
     little::put_u16(area, at + 2, 0);
 }
 

@@ -1,6 +1,4 @@
 use Rattle.listening.proofs.Lending.{by-length, by-number, by-area}
-use Prim.Native.Nat.{_+_, _-_}
-use native.Mathlib.Omega.{arith}
 use borrow.Author.Needs.{needs}
 use Rattle.listening.proofs.make.Statement.{statement}
 use Rattle.listening.proofs.make.Tie as tie
@@ -9,13 +7,13 @@ refused-requires : tie.Need-refused-requires
 refused-requires c κs = search needs
 
 returns : tie.Need-returns
-returns c = by-length _ _ _ _ (c .before .if1 .taken) (c .refused .ensures)
+returns c = by-length _ _ _ (c .before .if1 .taken) (c .refused .ensures)
 
 refused-requires-2 : tie.Need-refused-requires-2
 refused-requires-2 c κs = search needs
 
 returns-2 : tie.Need-returns-2
-returns-2 c = by-number _ _ _ _ (c .before .before .if1 .left) (c .before .if2 .taken) (c .refused2 .ensures)
+returns-2 c = by-number _ _ _ (c .before .before .if1 .left) (c .before .if2 .taken) (c .refused2 .ensures)
 
 start-of-requires : tie.Need-start-of-requires
 start-of-requires c κs = search needs
@@ -39,7 +37,10 @@ same-length : tie.Need-same-length
 same-length c = search needs
 
 returns-3 : tie.Need-returns-3
-returns-3 c = by-area (c .before .before .before .before .before .before .before .before .args .store .now) (c .before .before .before .before .before .before .before .before .args .stream) _ _ (c .before .before .before .before .start-of .result) (c .before .before .before .before .start-of .result + 2608 - c .before .before .before .before .start-of .result) (c .before .before .before .before .before .before .if1 .left) (c .before .before .before .before .before .if2 .left) (c .before .before .before .before .start-of .ensures) (omega arith) _ (c .before .before .make .ensures)
+returns-3 c =
+    let lent = c .before .before in
+    let started = lent .before .before in
+    by-area _ _ _ (started .before .before .if1 .left) (started .before .if2 .left) (started .start-of .ensures) (lent .make .ensures)
 
 pub make-spec : {M : Type 1} → statement M
 make-spec =

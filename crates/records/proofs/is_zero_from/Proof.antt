@@ -12,7 +12,7 @@ use lib.ListN.{length, drop, getD, length-drop, length-replicate, getD-replicate
 use lib.Seq.{getD-drop, ext-getD}
 use Rattle.model.specs.Sizes.{areaLength}
 use Rattle.model.specs.Area.{zeros}
-use Rattle.records.specs.Records.{Decides, ZeroBetween}
+use Rattle.records.specs.Records.{ZeroBetween}
 use Rattle.records.proofs.Laws.{refuted, decided-not}
 use Rattle.records.proofs.is_zero_from.Statement.{statement}
 use Rattle.records.proofs.is_zero_from.Tie as tie

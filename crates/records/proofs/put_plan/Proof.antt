@@ -9,14 +9,14 @@ use Rattle.records.proofs.Laws.{then-written}
 use Rattle.records.proofs.put_plan.Statement.{statement}
 use Rattle.records.proofs.put_plan.Tie as tie
 
-cast-put-marks : tie.Need-cast-put-marks
-cast-put-marks c = search needs
+cast-put-kind : tie.Need-cast-put-kind
+cast-put-kind c = search needs
 
-cast-put-marks-2 : tie.Need-cast-put-marks-2
-cast-put-marks-2 c = search needs
+cast-put-kind-2 : tie.Need-cast-put-kind-2
+cast-put-kind-2 c = search needs
 
-put-marks-requires : tie.Need-put-marks-requires
-put-marks-requires c κs = search needs
+put-kind-requires : tie.Need-put-kind-requires
+put-kind-requires c κs = search needs
 
 put-u32-requires : tie.Need-put-u32-requires
 put-u32-requires c κs = search needs
@@ -43,8 +43,8 @@ returns c =
     let at-two = at-four .before .before .before .before in
     let at-b = at-two .before .before .before .before in
     let at-a = at-b .before .before .before .before .before in
-    let at-marks = at-a .before .before .before .before in
-    let a = then-written 0 _ _ _ (at-marks .put-marks .ensures) (at-a .put-u32 .ensures) refl (omega arith) in
+    let at-kind = at-a .before .before .before .before in
+    let a = then-written 0 _ _ _ (at-kind .put-kind .ensures) (at-a .put-u32 .ensures) refl (omega arith) in
     let b = then-written 0 _ _ _ a (at-b .put-u16 .ensures) refl (omega arith) in
     let zeros = then-written 0 _ _ _ b (at-two .put-u162 .ensures) refl (omega arith) in
     then-written 0 _ _ _ zeros (at-four .put-u322 .ensures) refl (omega arith)
@@ -53,9 +53,9 @@ pub put-plan-spec : {M : Type 1} → statement M
 put-plan-spec =
     tie.close
     (tie.spec
-    cast-put-marks
-    cast-put-marks-2
-    put-marks-requires
+    cast-put-kind
+    cast-put-kind-2
+    put-kind-requires
     put-u32-requires
     cast-put-u16
     put-u16-requires

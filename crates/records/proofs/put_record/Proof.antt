@@ -15,8 +15,8 @@ mul-at c = search needs
 add-at : tie.Need-add-at
 add-at c = search needs
 
-put-marks-requires : tie.Need-put-marks-requires
-put-marks-requires c κs = search needs
+put-kind-requires : tie.Need-put-kind-requires
+put-kind-requires c κs = search needs
 
 add-put-u32 : tie.Need-add-put-u32
 add-put-u32 c = search needs
@@ -52,8 +52,8 @@ returns c =
     let at-c = at-d .before .before .before .before in
     let at-b = at-c .before .before .before .before in
     let at-a = at-b .before .before .before .before in
-    let at-marks = at-a .before .before .before .before in
-    let a = then-written _ _ _ _ (at-marks .put-marks .ensures) (at-a .put-u32 .ensures) refl (omega arith) in
+    let at-kind = at-a .before .before .before .before in
+    let a = then-written _ _ _ _ (at-kind .put-kind .ensures) (at-a .put-u32 .ensures) refl (omega arith) in
     let b = then-written _ _ _ _ a (at-b .put-u322 .ensures) refl (omega arith) in
     let third = then-written _ _ _ _ b (at-c .put-u323 .ensures) refl (omega arith) in
     then-written _ _ _ _ third (at-d .put-u324 .ensures) refl (omega arith)
@@ -64,7 +64,7 @@ put-record-spec =
     (tie.spec
     mul-at
     add-at
-    put-marks-requires
+    put-kind-requires
     add-put-u32
     put-u32-requires
     add-put-u32-2

@@ -1,4 +1,4 @@
-use Rattle.listening.proofs.OnReading.{read-unsound, read-unopened, read-opened, read-plan, read-figures, read-count}
+use Rattle.listening.proofs.OnReading.{read-opened, read-plan, read-figures, read-count}
 use Rattle.listening.proofs.Outcomes.{by-unsound, by-unopened, enter-refused, entered}
 use Rattle.model.specs.Calls.{refusalOf, refusals, firstOf}
 use borrow.Author.Tests.{not-true, not-false}
@@ -17,11 +17,7 @@ same-length : tie.Need-same-length
 same-length c = search needs
 
 returns : tie.Need-returns
-returns c =
-    let area = c .before .before .before .before .before .before .args .area .now in
-    let s = c .before .before .before .read .result in
-    let said = c .before .before .before .read .ensures in
-    by-unsound _ _ _ (read-unsound 0 area s said (not-true (s .sound) (c .before .if1 .taken))) (c .refused .ensures)
+returns c = by-unsound _ _ _ (c .before .before .before .read .ensures) _ (not-true _ (c .before .if1 .taken)) (c .refused .ensures)
 
 refused-requires-2 : tie.Need-refused-requires-2
 refused-requires-2 c κs = search needs
@@ -32,18 +28,14 @@ same-length-2 c = search needs
 returns-2 : tie.Need-returns-2
 unfolding refusalOf refusals firstOf
 returns-2 c =
-    let area = c .before .before .before .before .before .before .before .before .args .area .now in
-    let s = c .before .before .before .before .before .read .result in
-    let said = c .before .before .before .before .before .read .ensures in
-    by-unopened _ _ _ refl (read-unopened 0 area s said (not-false (s .sound) (c .before .before .before .if1 .left)) (not-true (s .opened) (c .before .if2 .taken))) (c .refused2 .ensures)
+    let sound = c .before .before .before in
+    by-unopened _ _ _ (sound .before .before .read .ensures) _ refl (not-false _ (sound .if1 .left)) (not-true _ (c .before .if2 .taken)) (c .refused2 .ensures)
 
 entry-requires : tie.Need-entry-requires
 entry-requires c κs =
-    let area = c .before .before .before .before .before .before .before .before .before .args .area .now in
-    let s = c .before .before .before .before .before .before .read .result in
-    let said = c .before .before .before .before .before .before .read .ensures in
-    let at = read-opened 0 area s said (not-false (s .opened) (c .before .before .if2 .left)) in
-    (read-plan area s (at .0) (at .1), read-figures area s (at .0) (at .1), read-count area s (at .0) (at .1))
+    let opened = c .before .before in
+    let at = read-opened _ _ _ (opened .before .before .before .before .read .ensures) (not-false _ (opened .if2 .left)) in
+    (read-plan (at .1), read-figures (at .1), read-count (at .1))
 
 refused-requires-3 : tie.Need-refused-requires-3
 refused-requires-3 c κs = search needs
@@ -53,45 +45,34 @@ same-length-3 c = search needs
 
 returns-3 : tie.Need-returns-3
 returns-3 c =
-    let area = c .before .before .before .before .before .before .before .before .before .before .before .before .args .area .now in
-    let s = c .before .before .before .before .before .before .before .before .before .read .result in
-    let said = c .before .before .before .before .before .before .before .before .before .read .ensures in
-    let at = read-opened 0 area s said (not-false (s .opened) (c .before .before .before .before .before .if2 .left)) in
-    enter-refused area s (at .0) (at .1) _ (c .before .before .before .before .before .before .before .before .before .before .before .before .args .entry) (c .before .before .entry .result) (c .before .before .entry .ensures) (c .before .if3 .taken) (c .refused3 .ensures)
+    let opened = c .before .before .before .before .before in
+    let at = read-opened _ _ _ (opened .before .before .before .before .read .ensures) (not-false _ (opened .if2 .left)) in
+    enter-refused (at .1) _ (c .before .before .entry .ensures) (c .before .if3 .taken) (c .refused3 .ensures)
 
 put-entry-requires : tie.Need-put-entry-requires
 put-entry-requires c κs =
-    let area = c .before .before .before .before .before .before .before .before .before .before .before .before .args .area .now in
-    let s = c .before .before .before .before .before .before .before .before .before .read .result in
-    let said = c .before .before .before .before .before .before .before .before .before .read .ensures in
-    let is = not-false (s .opened) (c .before .before .before .before .before .if2 .left) in
+    let opened = c .before .before .before .before .before in
+    let read = opened .before .before .before .before in
     let none = sym (c .before .before .entry .ensures) ∙ c .before .if3 .left in
-    (c .before .before .before .before .before .before .before .before .before .before .before .before .pre, record { said = said; isOpened = is; accepted = none })
+    (read .before .before .before .pre, record { said = read .read .ensures; isOpened = not-false _ (opened .if2 .left); accepted = none })
 
 entry-requires-2 : tie.Need-entry-requires-2
 entry-requires-2 c κs =
-    let area = c .before .before .before .before .before .before .before .before .before .before .before .before .before .before .before .args .area .now in
-    let s = c .before .before .before .before .before .before .before .before .before .before .before .before .read .result in
-    let said = c .before .before .before .before .before .before .before .before .before .before .before .before .read .ensures in
-    let is = not-false (s .opened) (c .before .before .before .before .before .before .before .before .if2 .left) in
-    let none = sym (c .before .before .before .before .before .entry .ensures) ∙ c .before .before .before .before .if3 .left in
-    let at = read-opened 0 area s said is in
-    (read-plan area s (at .0) (at .1), none, c .before .before .put-entry .ensures .0)
+    let taken = c .before .before .before .before in
+    let opened = taken .before .before .before .before in
+    let at = read-opened _ _ _ (opened .before .before .before .before .read .ensures) (not-false _ (opened .if2 .left)) in
+    (read-plan (at .1), sym (taken .before .entry .ensures) ∙ taken .if3 .left, c .before .before .put-entry .ensures .0)
 
 same-length-4 : tie.Need-same-length-4
 same-length-4 c = search needs
 
 returns-4 : tie.Need-returns-4
 returns-4 c =
-    let area = c .before .before .before .before .before .before .before .before .before .before .before .before .before .before .before .before .args .area .now in
-    let s = c .before .before .before .before .before .before .before .before .before .before .before .before .before .read .result in
-    let said = c .before .before .before .before .before .before .before .before .before .before .before .before .before .read .ensures in
-    let is = not-false (s .opened) (c .before .before .before .before .before .before .before .before .before .if2 .left) in
-    let none = sym (c .before .before .before .before .before .before .entry .ensures) ∙ c .before .before .before .before .before .if3 .left in
-    let at = read-opened 0 area s said is in
     let put = c .before .before .before .put-entry .ensures in
-    entered area s (at .0) (at .1) _ (c .before .before .before .before .before .before .before .before .before .before .before .before .before .before .before .before .args .entry) (c .before .before .before .before .before .before .entry .result) _ (c .before .before .before .put-entry .result)
-    (c .before .before .before .before .before .before .entry .ensures) (c .before .before .before .before .before .if3 .left) (put .0) (c .entry2 .ensures) (put .1)
+    let taken = c .before .before .before .before .before in
+    let opened = taken .before .before .before .before in
+    let at = read-opened _ _ _ (opened .before .before .before .before .read .ensures) (not-false _ (opened .if2 .left)) in
+    entered (at .1) _ (taken .before .entry .ensures) (taken .if3 .left) (put .0) (c .entry2 .ensures) (put .1)
 
 pub enter-spec : {M : Type 1} → statement M
 enter-spec =

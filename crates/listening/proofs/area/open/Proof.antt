@@ -1,4 +1,4 @@
-use Rattle.listening.proofs.OnReading.{read-unsound, read-unopened, read-opened, started-fits}
+use Rattle.listening.proofs.OnReading.{read-unopened, read-opened, started-fits}
 use Rattle.listening.proofs.Outcomes.{by-unsound, open-again, open-invalid, open-made}
 use Rattle.model.proofs.Allowed.{plan-range}
 use Rattle.model.proofs.Booleans.{of-holds}
@@ -19,11 +19,7 @@ same-length : tie.Need-same-length
 same-length c = search needs
 
 returns : tie.Need-returns
-returns c =
-    let area = c .before .before .before .before .before .before .args .area .now in
-    let s = c .before .before .before .read .result in
-    let said = c .before .before .before .read .ensures in
-    by-unsound _ _ _ (read-unsound 0 area s said (not-true (s .sound) (c .before .if1 .taken))) (c .refused .ensures)
+returns c = by-unsound _ _ _ (c .before .before .before .read .ensures) _ (not-true _ (c .before .if1 .taken)) (c .refused .ensures)
 
 refused-requires-2 : tie.Need-refused-requires-2
 refused-requires-2 c κs = search needs
@@ -33,11 +29,8 @@ same-length-2 c = search needs
 
 returns-2 : tie.Need-returns-2
 returns-2 c =
-    let area = c .before .before .before .before .before .before .before .args .area .now in
-    let s = c .before .before .before .before .read .result in
-    let said = c .before .before .before .before .read .ensures in
-    let at = read-opened 0 area s said (c .before .if2 .taken) in
-    open-again area s (at .0) (at .1) _ _ (c .refused2 .ensures)
+    let at = read-opened _ _ _ (c .before .before .before .before .read .ensures) (c .before .if2 .taken) in
+    open-again (at .1) _ (c .refused2 .ensures)
 
 is-valid-requires : tie.Need-is-valid-requires
 is-valid-requires c κs = search needs
@@ -50,13 +43,18 @@ same-length-3 c = search needs
 
 returns-3 : tie.Need-returns-3
 returns-3 c =
-    let area = c .before .before .before .before .before .before .before .before .before .args .area .now in
-    let s = c .before .before .before .before .before .before .read .result in
-    let said = c .before .before .before .before .before .before .read .ensures in
-    open-invalid area (c .before .before .before .before .before .before .before .before .before .args .plan) _ (c .before .before .is-valid .result) (read-unopened 0 area s said (not-false (s .sound) (c .before .before .before .before .if1 .left)) (c .before .before .before .if2 .left)) (c .before .before .is-valid .ensures) (not-true (c .before .before .is-valid .result) (c .before .if3 .taken)) (c .refused3 .ensures)
+    let checked = c .before .before in
+    let shut = checked .before in
+    let sound = shut .before in
+    let holding = read-unopened _ _ _ (sound .before .before .read .ensures) (not-false _ (sound .if1 .left)) (shut .if2 .left) in
+    open-invalid _ _ holding (checked .is-valid .ensures) (not-true _ (c .before .if3 .taken)) (c .refused3 .ensures)
 
 put-plan-requires : tie.Need-put-plan-requires
-put-plan-requires c κs = let range = plan-range (c .before .before .before .before .before .before .before .before .before .args .plan) (of-holds _ (sym (c .before .before .is-valid .ensures) ∙ not-false (c .before .before .is-valid .result) (c .before .if3 .left))) in (c .before .before .before .before .before .before .before .before .before .pre, omega arith, omega arith, omega arith)
+put-plan-requires c κs =
+    let passed = c .before in
+    let checked = passed .before in
+    let range = plan-range _ (of-holds _ (sym (checked .is-valid .ensures) ∙ not-false _ (passed .if3 .left))) in
+    (checked .before .before .before .before .before .before .before .pre, omega arith, omega arith, omega arith)
 
 started-requires : tie.Need-started-requires
 started-requires c κs = search needs
@@ -64,8 +62,7 @@ started-requires c κs = search needs
 put-figures-requires : tie.Need-put-figures-requires
 put-figures-requires c κs =
     let passed = c .before .before .before .before .before .before in
-    let checked = passed .before in
-    let valid = of-holds _ (sym (checked .is-valid .ensures) ∙ not-false (checked .is-valid .result) (passed .if3 .left)) in
+    let valid = of-holds _ (sym (passed .before .is-valid .ensures) ∙ not-false _ (passed .if3 .left)) in
     (search needs, rw (c .started .ensures) (started-fits _ valid))
 
 gives-requires : tie.Need-gives-requires
@@ -76,10 +73,14 @@ same-length-4 c = search needs
 
 returns-4 : tie.Need-returns-4
 returns-4 c =
-    let area = c .before .before .before .before .before .before .before .before .before .before .before .before .before .before .before .before .before .before .args .area .now in
-    let s = c .before .before .before .before .before .before .before .before .before .before .before .before .before .before .before .read .result in
-    let said = c .before .before .before .before .before .before .before .before .before .before .before .before .before .before .before .read .ensures in
-    open-made area (c .before .before .before .before .before .before .before .before .before .before .before .before .before .before .before .before .before .before .args .plan) _ _ (read-unopened 0 area s said (not-false (s .sound) (c .before .before .before .before .before .before .before .before .before .before .before .before .before .if1 .left)) (c .before .before .before .before .before .before .before .before .before .before .before .before .if2 .left)) (of-holds _ (sym (c .before .before .before .before .before .before .before .before .before .before .before .is-valid .ensures) ∙ not-false (c .before .before .before .before .before .before .before .before .before .before .before .is-valid .result) (c .before .before .before .before .before .before .before .before .before .before .if3 .left))) (c .gives .ensures) (cc)
+    let passed = c .before .before .before .before .before .before .before .before .before .before in
+    let checked = passed .before in
+    let shut = checked .before in
+    let sound = shut .before in
+    let holding = read-unopened _ _ _ (sound .before .before .read .ensures) (not-false _ (sound .if1 .left)) (shut .if2 .left) in
+    let valid = of-holds _ (sym (checked .is-valid .ensures) ∙ not-false _ (passed .if3 .left)) in
+    let figured = c .before .before .before in
+    open-made _ _ holding valid (c .gives .ensures) (figured .before .before .before .before .before .put-plan .ensures) (figured .before .started .ensures) (figured .put-figures .ensures)
 
 pub open-spec : {M : Type 1} → statement M
 open-spec =

@@ -10,7 +10,6 @@ use Rattle.listening.proofs.area.put_entry.Tie as tie
 
 put-record-of-requires : tie.Need-put-record-of-requires
 put-record-of-requires c κs =
-    let start = c .before .before .args in
     let takes = c .before .before .pre .1 in
     (c .before .before .pre .0, room-for _ _ _ _ (takes .accepted), flag-fits _ _ _ _ (takes .accepted))
 
@@ -20,11 +19,10 @@ add-replay c =
 
 replay-requires : tie.Need-replay-requires
 replay-requires c κs =
-    let start = c .before .before .before .before .before .before .args in
-    let takes = c .before .before .before .before .before .before .pre .1 in
-    let at = read-opened 0 (start .area .now) (start .standing) (takes .said) (takes .isOpened) in
-    entry-ready (start .area .now) (start .standing) (at .0) (at .1) (start .entry) (takes .accepted) _
-    (c .before .before .before .put-record-of .ensures .0) (c .before .before .before .before .before .before .pre .0)
+    let recorded = c .before .before .before in
+    let start = recorded .before .before .before .pre in
+    let at = read-opened _ _ _ (start .1 .said) (start .1 .isOpened) in
+    entry-ready (at .1) _ (start .1 .accepted) (recorded .put-record-of .ensures .0) (start .0)
 
 add-put-standing : tie.Need-add-put-standing
 add-put-standing c =
@@ -32,17 +30,13 @@ add-put-standing c =
 
 put-standing-requires : tie.Need-put-standing-requires
 put-standing-requires c κs =
-    let start = c .before .before .before .before .before .before .before .before .before .args in
-    let takes = c .before .before .before .before .before .before .before .before .before .pre .1 in
-    let at = read-opened 0 (start .area .now) (start .standing) (takes .said) (takes .isOpened) in
-    let whole =
-    length-after (start .area .now) (start .standing) (at .0) (at .1) (start .entry) (takes .accepted) _
-    (c .before .before .before .before .before .before .put-record-of .ensures .0) (c .before .before .before .before .before .before .before .before .before .pre .0) in
-    let recorded = c .before .before .before .before .before .before .put-record-of .ensures in (
-      whole,
-      omega (arith, room-for _ _ _ _ (takes .accepted)),
-      entry-fits (start .area .now) (start .standing) (at .0) (at .1) (start .entry) (takes .accepted) _ (recorded .0) (recorded .1)
-          (c .before .before .replay .result) (c .before .before .replay .ensures),
+    let recorded = c .before .before .before .before .before .before in
+    let start = recorded .before .before .before .pre in
+    let at = read-opened _ _ _ (start .1 .said) (start .1 .isOpened) in
+    let put = recorded .put-record-of .ensures in (
+      length-after (at .1) _ (start .1 .accepted) (put .0) (start .0),
+      omega (arith, room-for _ _ _ _ (start .1 .accepted)),
+      entry-fits (at .1) _ (start .1 .accepted) (put .0) (put .1) (c .before .before .replay .ensures),
     )
 
 same-length : tie.Need-same-length
@@ -51,14 +45,12 @@ same-length c = search needs
 returns : tie.Need-returns
 unfolding rewritten
 returns c =
-    let start = c .before .before .before .before .before .before .before .before .before .before .before .before .args in
-    let takes = c .before .before .before .before .before .before .before .before .before .before .before .before .pre .1 in
-    let at = read-opened 0 (start .area .now) (start .standing) (takes .said) (takes .isOpened) in
-    let recorded = c .before .before .before .before .before .before .before .before .before .put-record-of .ensures in (
-      entry-brings (start .area .now) (start .standing) (at .0) (at .1) (start .entry) (takes .accepted) _ (recorded .0) (recorded .1)
-          (c .before .before .before .before .before .replay .result) (c .before .before .before .before .before .replay .ensures),
-      cc,
-    )
+    let replayed = c .before .before .before .before .before in
+    let recorded = replayed .before .before .before .before in
+    let takes = recorded .before .before .before .pre .1 in
+    let at = read-opened _ _ _ (takes .said) (takes .isOpened) in
+    let put = recorded .put-record-of .ensures in
+    (entry-brings (at .1) _ (takes .accepted) (put .0) (put .1) (replayed .replay .ensures), cc)
 
 pub put-entry-spec : {M : Type 1} → statement M
 put-entry-spec =

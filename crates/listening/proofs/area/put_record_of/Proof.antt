@@ -1,8 +1,3 @@
-use Rattle.model.specs.Sizes.{headerLength, recordLength}
-use Rattle.model.specs.declared.Entry.{Entry}
-use Rattle.little.specs.Little.{written}
-use Prim.Native.Nat.{_+_, _*_}
-use mathlib.Core.Path.{sym, ap, _∙_}
 use native.Mathlib.Omega.{arith}
 use Rattle.listening.specs.Written.{flagOf}
 use Rattle.model.specs.Stations.{entryArguments}
@@ -53,44 +48,28 @@ same-length c = search needs
 
 returns : tie.Need-returns
 unfolding recordOf entryArguments
-returns c = (
-  c .before .before .put-record .ensures
-      ∙ ap (λ (e : Entry). written (headerLength + recordLength * c .before .before .before .before .before .before .before .before .args .i) (recordOf e) (c .before .before .before .before .before .before .before .before .args .area .now)) (sym (c .before .before .before .before .before .entry .given .1)),
-  rw (c .before .before .before .before .before .entry .given .1) (word-and _ _ (omega arith) (word-and _ _ (omega arith) (word-and _ _ (omega arith) (word-and _ _ (omega arith) (word-and _ _ (omega arith) no-words))))),
-)
+returns c = rw (c .before .before .before .before .before .entry .given .1) (c .before .before .put-record .ensures, word-and _ _ (omega arith) (word-and _ _ (omega arith) (word-and _ _ (omega arith) (word-and _ _ (omega arith) (word-and _ _ (omega arith) no-words)))))
 
 same-length-2 : tie.Need-same-length-2
 same-length-2 c = search needs
 
 returns-2 : tie.Need-returns-2
 unfolding recordOf entryArguments
-returns-2 c = (
-  c .before .before .put-record2 .ensures
-      ∙ ap (λ (e : Entry). written (headerLength + recordLength * c .before .before .before .before .before .before .before .before .args .i) (recordOf e) (c .before .before .before .before .before .before .before .before .args .area .now)) (sym (c .before .before .before .before .before .entry2 .given .1)),
-  rw (c .before .before .before .before .before .entry2 .given .1) (word-and _ _ (omega arith) (word-and _ _ (omega arith) no-words)),
-)
+returns-2 c = rw (c .before .before .before .before .before .entry2 .given .1) (c .before .before .put-record2 .ensures, word-and _ _ (omega arith) (word-and _ _ (omega arith) no-words))
 
 same-length-3 : tie.Need-same-length-3
 same-length-3 c = search needs
 
 returns-3 : tie.Need-returns-3
 unfolding recordOf entryArguments
-returns-3 c = (
-  c .before .before .put-record3 .ensures
-      ∙ ap (λ (e : Entry). written (headerLength + recordLength * c .before .before .before .before .before .before .before .before .args .i) (recordOf e) (c .before .before .before .before .before .before .before .before .args .area .now)) (sym (c .before .before .before .before .before .entry3 .given .1)),
-  rw (c .before .before .before .before .before .entry3 .given .1) (word-and _ _ (omega arith) (word-and _ _ (omega arith) no-words)),
-)
+returns-3 c = rw (c .before .before .before .before .before .entry3 .given .1) (c .before .before .put-record3 .ensures, word-and _ _ (omega arith) (word-and _ _ (omega arith) no-words))
 
 same-length-4 : tie.Need-same-length-4
 same-length-4 c = search needs
 
 returns-4 : tie.Need-returns-4
 unfolding recordOf entryArguments
-returns-4 c = (
-  c .before .before .put-record4 .ensures
-      ∙ ap (λ (e : Entry). written (headerLength + recordLength * c .before .before .before .before .before .before .before .before .args .i) (recordOf e) (c .before .before .before .before .before .before .before .before .args .area .now)) (sym (c .before .before .before .before .before .entry4 .given .1)),
-  rw (c .before .before .before .before .before .entry4 .given .1) (word-and _ _ (omega arith) (word-and _ _ (omega arith) no-words)),
-)
+returns-4 c = rw (c .before .before .before .before .before .entry4 .given .1) (c .before .before .put-record4 .ensures, word-and _ _ (omega arith) (word-and _ _ (omega arith) no-words))
 
 pub put-record-of-spec : {M : Type 1} → statement M
 put-record-of-spec =

@@ -1,7 +1,6 @@
-use Rattle.listening.proofs.OnReading.{read-unsound, read-unopened, read-opened, read-figures, read-count}
+use Rattle.listening.proofs.OnReading.{read-opened, read-figures, read-count}
 use Rattle.listening.proofs.Outcomes.{by-unsound, by-unopened, has-read}
 use Rattle.model.specs.Calls.{refusalOf, refusals, firstOf, gives}
-use Prim.Native.Nat.{ℕ}
 use native.Mathlib.Omega.{arith}
 use borrow.Author.Tests.{not-true, not-false}
 use mathlib.Core.Path.{refl, ap, _∙_}
@@ -17,10 +16,7 @@ refused-requires c κs = search needs
 
 returns : tie.Need-returns
 returns c =
-    let area = c .before .before .before .before .before .args .area .now in
-    let s = c .before .before .before .read .result in
-    let said = c .before .before .before .read .ensures in
-    by-unsound _ _ _ (read-unsound 0 area s said (not-true (s .sound) (c .before .if1 .taken))) (c .refused .ensures)
+    by-unsound _ _ _ (c .before .before .before .read .ensures) _ (not-true _ (c .before .if1 .taken)) (c .refused .ensures)
 
 refused-requires-2 : tie.Need-refused-requires-2
 refused-requires-2 c κs = search needs
@@ -28,26 +24,18 @@ refused-requires-2 c κs = search needs
 returns-2 : tie.Need-returns-2
 unfolding refusalOf refusals firstOf
 returns-2 c =
-    let area = c .before .before .before .before .before .before .before .args .area .now in
-    let s = c .before .before .before .before .before .read .result in
-    let said = c .before .before .before .before .before .read .ensures in
-    by-unopened _ _ _ refl (read-unopened 0 area s said (not-false (s .sound) (c .before .before .before .if1 .left)) (not-true (s .opened) (c .before .if2 .taken))) (c .refused2 .ensures)
+    let sound = c .before .before .before in
+    by-unopened _ _ _ (sound .before .before .read .ensures) _ refl (not-false _ (sound .if1 .left)) (not-true _ (c .before .if2 .taken)) (c .refused2 .ensures)
 
 cast-gives : tie.Need-cast-gives
 cast-gives c =
-    let area = c .before .before .before .before .before .before .before .before .before .args .area .now in
-    let s = c .before .before .before .before .before .before .before .read .result in
-    let said = c .before .before .before .before .before .before .before .read .ensures in
-    let at = read-opened 0 area s said (not-false (s .opened) (c .before .before .before .if2 .left)) in
-    omega (arith, read-count area s (at .0) (at .1))
+    let at = read-opened _ _ _ (c .before .before .before .before .before .before .before .read .ensures) (not-false _ (c .before .before .before .if2 .left)) in
+    omega (arith, read-count (at .1))
 
 cast-gives-2 : tie.Need-cast-gives-2
 cast-gives-2 c =
-    let area = c .before .before .before .before .before .before .before .before .before .before .args .area .now in
-    let s = c .before .before .before .before .before .before .before .before .read .result in
-    let said = c .before .before .before .before .before .before .before .before .read .ensures in
-    let at = read-opened 0 area s said (not-false (s .opened) (c .before .before .before .before .if2 .left)) in
-    omega (arith, read-count area s (at .0) (at .1), read-figures area s (at .0) (at .1) .acceptedIn)
+    let at = read-opened _ _ _ (c .before .before .before .before .before .before .before .before .read .ensures) (not-false _ (c .before .before .before .before .if2 .left)) in
+    omega (arith, read-count (at .1), read-figures (at .1) .acceptedIn)
 
 read-figure-requires : tie.Need-read-figure-requires
 read-figure-requires c κs = search needs
@@ -57,11 +45,9 @@ gives-requires c κs = search needs
 
 returns-3 : tie.Need-returns-3
 returns-3 c =
-    let area = c .before .before .before .before .before .before .before .before .before .before .before .before .args .area .now in
-    let s = c .before .before .before .before .before .before .before .before .before .before .read .result in
-    let said = c .before .before .before .before .before .before .before .before .before .before .read .ensures in
-    let at = read-opened 0 area s said (not-false (s .opened) (c .before .before .before .before .before .before .if2 .left)) in
-    has-read area s (at .0) (at .1) _ (c .gives .ensures ∙ ap (λ (n : ℕ). gives (s .count) (s .figures .accepted) n) (c .before .read-figure .ensures))
+    let read = c .before .before .before .before .before .before .before .before .before .before .read in
+    let at = read-opened _ _ _ (read .ensures) (not-false _ (c .before .before .before .before .before .before .if2 .left)) in
+    has-read (at .1) (c .gives .ensures ∙ ap (gives (read .result .count) (read .result .figures .accepted)) (c .before .read-figure .ensures))
 
 pub read-spec : {M : Type 1} → statement M
 read-spec =

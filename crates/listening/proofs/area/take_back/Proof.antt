@@ -1,4 +1,4 @@
-use Rattle.listening.proofs.OnReading.{read-unsound, read-unopened, read-opened, read-count, figures-fit}
+use Rattle.listening.proofs.OnReading.{read-opened, read-count, figures-fit}
 use Rattle.listening.proofs.Outcomes.{by-unsound, by-unopened, back-none, back-taken}
 use Rattle.model.specs.Calls.{refusalOf, refusals, firstOf}
 use native.Mathlib.Omega.{arith}
@@ -18,11 +18,7 @@ same-length : tie.Need-same-length
 same-length c = search needs
 
 returns : tie.Need-returns
-returns c =
-    let area = c .before .before .before .before .before .before .args .area .now in
-    let s = c .before .before .before .read .result in
-    let said = c .before .before .before .read .ensures in
-    by-unsound _ _ _ (read-unsound 1 area s said (not-true (s .sound) (c .before .if1 .taken))) (c .refused .ensures)
+returns c = by-unsound _ _ _ (c .before .before .before .read .ensures) _ (not-true _ (c .before .if1 .taken)) (c .refused .ensures)
 
 refused-requires-2 : tie.Need-refused-requires-2
 refused-requires-2 c κs = search needs
@@ -33,10 +29,8 @@ same-length-2 c = search needs
 returns-2 : tie.Need-returns-2
 unfolding refusalOf refusals firstOf
 returns-2 c =
-    let area = c .before .before .before .before .before .before .before .before .args .area .now in
-    let s = c .before .before .before .before .before .read .result in
-    let said = c .before .before .before .before .before .read .ensures in
-    by-unopened _ _ _ refl (read-unopened 1 area s said (not-false (s .sound) (c .before .before .before .if1 .left)) (not-true (s .opened) (c .before .if2 .taken))) (c .refused2 .ensures)
+    let sound = c .before .before .before in
+    by-unopened _ _ _ (sound .before .before .read .ensures) _ refl (not-false _ (sound .if1 .left)) (not-true _ (c .before .if2 .taken)) (c .refused2 .ensures)
 
 refused-requires-3 : tie.Need-refused-requires-3
 refused-requires-3 c κs = search needs
@@ -46,30 +40,27 @@ same-length-3 c = search needs
 
 returns-3 : tie.Need-returns-3
 returns-3 c =
-    let area = c .before .before .before .before .before .before .before .before .before .before .args .area .now in
-    let s = c .before .before .before .before .before .before .before .read .result in
-    let said = c .before .before .before .before .before .before .before .read .ensures in
-    let at = read-opened 1 area s said (not-false (s .opened) (c .before .before .before .if2 .left)) in
-    back-none area s (at .0) (at .1) _ (c .before .if3 .taken) (c .refused3 .ensures)
+    let opened = c .before .before .before in
+    let at = read-opened _ _ _ (opened .before .before .before .before .read .ensures) (not-false _ (opened .if2 .left)) in
+    back-none (at .1) (c .before .if3 .taken) (c .refused3 .ensures)
 
 sub-last : tie.Need-sub-last
 sub-last c = search needs
 
 get-record-requires : tie.Need-get-record-requires
 get-record-requires c κs =
-    let area = c .before .before .before .before .before .before .before .before .before .before .before .args .area .now in
-    let s = c .before .before .before .before .before .before .before .before .read .result in
-    let said = c .before .before .before .before .before .before .before .before .read .ensures in
-    let at = read-opened 1 area s said (not-false (s .opened) (c .before .before .before .before .if2 .left)) in
-    (c .before .before .before .before .before .before .before .before .before .before .before .pre, omega (arith, read-count area s (at .0) (at .1), c .before .before .if3 .left))
+    let opened = c .before .before .before .before in
+    let read = opened .before .before .before .before in
+    let at = read-opened _ _ _ (read .read .ensures) (not-false _ (opened .if2 .left)) in
+    (read .before .before .before .pre, omega (arith, read-count (at .1), c .before .before .if3 .left))
 
 clear-entry-requires : tie.Need-clear-entry-requires
 clear-entry-requires c κs =
-    let area = c .before .before .before .before .before .before .before .before .before .before .before .before .before .args .area .now in
-    let s = c .before .before .before .before .before .before .before .before .before .before .read .result in
-    let said = c .before .before .before .before .before .before .before .before .before .before .read .ensures in
-    let at = read-opened 1 area s said (not-false (s .opened) (c .before .before .before .before .before .before .if2 .left)) in
-    (c .before .before .before .before .before .before .before .before .before .before .before .before .before .pre, omega (arith, read-count area s (at .0) (at .1), c .before .before .before .before .if3 .left), figures-fit 1 area s (at .0) (at .1))
+    let some = c .before .before .before .before in
+    let opened = some .before .before in
+    let read = opened .before .before .before .before in
+    let at = read-opened _ _ _ (read .read .ensures) (not-false _ (opened .if2 .left)) in
+    (read .before .before .before .pre, omega (arith, read-count (at .1), some .if3 .left), figures-fit (at .1))
 
 cast-gives : tie.Need-cast-gives
 cast-gives c = search needs
@@ -82,12 +73,12 @@ same-length-4 c = search needs
 
 returns-4 : tie.Need-returns-4
 returns-4 c =
-    let area = c .before .before .before .before .before .before .before .before .before .before .before .before .before .before .before .before .before .before .args .area .now in
-    let s = c .before .before .before .before .before .before .before .before .before .before .before .before .before .before .before .read .result in
-    let said = c .before .before .before .before .before .before .before .before .before .before .before .before .before .before .before .read .ensures in
-    let at = read-opened 1 area s said (not-false (s .opened) (c .before .before .before .before .before .before .before .before .before .before .before .if2 .left)) in
-    back-taken area s (at .0) (at .1) _ (c .before .before .before .before .before .before .get-record .result) _ _
-    (c .before .before .before .before .before .before .before .before .before .if3 .left) refl (c .before .before .before .before .before .before .get-record .ensures) (c .gives .ensures) (c .before .before .before .before .clear-entry .ensures)
+    let cleared = c .before .before .before .before in
+    let record-read = cleared .before .before in
+    let some = record-read .before .before .before in
+    let opened = some .before .before in
+    let at = read-opened _ _ _ (opened .before .before .before .before .read .ensures) (not-false _ (opened .if2 .left)) in
+    back-taken (at .1) (some .if3 .left) refl (record-read .get-record .ensures) (c .gives .ensures) (cleared .clear-entry .ensures)
 
 pub take-back-spec : {M : Type 1} → statement M
 take-back-spec =

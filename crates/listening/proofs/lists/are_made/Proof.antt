@@ -25,7 +25,11 @@ is-made-requires : tie.Need-is-made-requires Inv-loop μ-loop
 is-made-requires c κs = tt
 
 returns : tie.Need-returns Inv-loop μ-loop
-returns c = not-all (c .before .before .before .before .before .before .args .calls .now) (c .before .before .before .before .loop .i) (c .before .before .before .before .before .before .args .count) (omega arith) (sym (c .before .is-made .ensures ∙ ap isMade (c .before .before .frame-at .ensures)) ∙ not-true (c .before .is-made .result) (c .if1 .taken))
+returns c =
+    let turn = c .before .before .before .before in
+    let start = turn .before .before .args in
+    not-all (start .calls .now) (turn .loop .i) (start .count) (omega arith)
+    (sym (c .before .is-made .ensures ∙ ap isMade (c .before .before .frame-at .ensures)) ∙ not-true _ (c .if1 .taken))
 
 add-i : tie.Need-add-i Inv-loop μ-loop
 add-i c = search needs
@@ -34,7 +38,9 @@ loop-less : tie.Need-loop-less Inv-loop μ-loop
 loop-less c = omega arith
 
 loop-again : tie.Need-loop-again Inv-loop μ-loop
-loop-again c = (omega arith, all-next (c .before .before .before .before .before .before .args .calls .now) (c .before .before .before .before .loop .i) (c .before .before .before .before .loop .inv .1) (sym (c .before .is-made .ensures ∙ ap isMade (c .before .before .frame-at .ensures)) ∙ not-false (c .before .is-made .result) (c .if1 .left)))
+loop-again c =
+    let turn = c .before .before .before .before .loop in
+    (omega arith, all-next _ _ (turn .inv .1) (sym (c .before .is-made .ensures ∙ ap isMade (c .before .before .frame-at .ensures)) ∙ not-false _ (c .if1 .left)))
 
 returns-2 : tie.Need-returns-2 Inv-loop μ-loop
 returns-2 c = let all : c .before .loop .i ≡ c .before .before .before .args .count = omega arith in sym (rw all at (c .before .loop .inv .1))

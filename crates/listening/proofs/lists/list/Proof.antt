@@ -11,22 +11,27 @@ mul-if1 : tie.Need-mul-if1
 mul-if1 c = search needs
 
 returns : tie.Need-returns
-returns c = list-refused (c .before .before .before .before .args .store .now) (c .before .before .before .before .args .calls .now) (c .before .before .before .before .args .answers .now) (odd-numbers (c .before .before .before .before .args .calls .now) (c .before .before .before .before .args .answers .now) (c .if1 .taken))
+returns c = list-refused (odd-numbers _ _ (c .if1 .taken))
 
 mul-if2 : tie.Need-mul-if2
 mul-if2 c = search needs
 
 returns-2 : tie.Need-returns-2
-returns-2 c = list-refused (c .before .before .before .before .before .args .store .now) (c .before .before .before .before .before .args .calls .now) (c .before .before .before .before .before .args .answers .now) (other-room (c .before .before .before .before .before .args .calls .now) (c .before .before .before .before .before .args .answers .now) (c .before .if1 .left) (c .if2 .taken))
+returns-2 c = list-refused (other-room _ _ (c .before .if1 .left) (c .if2 .taken))
 
 are-made-requires : tie.Need-are-made-requires
 are-made-requires c κs = search needs
 
 returns-3 : tie.Need-returns-3
-returns-3 c = list-refused (c .before .before .before .before .before .before .before .args .store .now) (c .before .before .before .before .before .before .before .args .calls .now) (c .before .before .before .before .before .before .before .args .answers .now) (by-calls (c .before .before .before .before .before .before .before .args .calls .now) (c .before .before .before .before .before .before .before .args .answers .now) (c .before .before .before .if1 .left) (c .before .before .if2 .left) ∙ sym (c .before .are-made .ensures) ∙ not-true (c .before .are-made .result) (c .if3 .taken))
+returns-3 c =
+    let room = c .before .before in
+    list-refused
+    (by-calls _ _ (room .before .if1 .left) (room .if2 .left) ∙ sym (c .before .are-made .ensures) ∙ not-true _ (c .if3 .taken))
 
 make-all-requires : tie.Need-make-all-requires
-make-all-requires c κs = (omega arith, c .before .before .before .before .if2 .left, sym (c .before .before .before .are-made .ensures) ∙ not-false (c .before .before .before .are-made .result) (c .before .before .if3 .left))
+make-all-requires c κs =
+    let looked = c .before .before .before in
+    (omega arith, looked .before .if2 .left, sym (looked .are-made .ensures) ∙ not-false _ (c .before .before .if3 .left))
 
 same-length : tie.Need-same-length
 same-length c = search needs
@@ -36,7 +41,17 @@ same-length-2 c = search needs
 
 returns-4 : tie.Need-returns-4
 unfolding callsIn
-returns-4 c = list-made (c .before .before .before .before .before .before .before .before .before .before .before .before .before .before .args .store .now) (c .before .before .before .before .before .before .before .before .before .before .before .before .before .before .args .calls .now) (c .before .before .before .before .before .before .before .before .before .before .before .before .before .before .args .answers .now) _ _ (by-calls (c .before .before .before .before .before .before .before .before .before .before .before .before .before .before .args .calls .now) (c .before .before .before .before .before .before .before .before .before .before .before .before .before .before .args .answers .now) (c .before .before .before .before .before .before .before .before .before .before .if1 .left) (c .before .before .before .before .before .before .before .before .before .if2 .left) ∙ sym (c .before .before .before .before .before .before .before .before .are-made .ensures) ∙ not-false (c .before .before .before .before .before .before .before .before .are-made .result) (c .before .before .before .before .before .before .before .if3 .left)) (λ k. c .before .before .before .before .before .before .before .before .before .before .before .before .shared-slice-known .given k .fits) (c .before .before .before .before .make-all .ensures .0) (c .before .before .before .before .make-all .ensures .1)
+returns-4 c =
+    let made = c .before .before .before .before .make-all .ensures in
+    let exist = c .before .before .before .before .before .before .before in
+    let looked = exist .before in
+    let room = looked .before in
+    let whole = room .before in
+    list-made
+    (by-calls _ _ (whole .if1 .left) (room .if2 .left) ∙ sym (looked .are-made .ensures) ∙ not-false _ (exist .if3 .left))
+    (λ k. whole .before .before .shared-slice-known .given k .fits)
+    (made .0)
+    (made .1)
 
 pub list-spec : {M : Type 1} → statement M
 list-spec =

@@ -1,17 +1,12 @@
-use Rattle.listening.specs.Lists.{frameAt, requestsTo, numbersOf}
-use mathlib.Core.Path.{_≡_, refl, ap, ap₂, _∙_}
-use Rattle.frame_text.specs.Program.{requestOf}
-use mathlib.Core.List.{List}
-use Prim.Native.Nat.{suc, _+_, _*_, _≤_, _-_, ℕ}
-use Rattle.listening.proofs.ListLaws.{none-made, store-next, answers-next, answers-all, made-before}
 use Rattle.listening.specs.Lists.{requestsTo, numbersOf}
+use mathlib.Core.Path.{_≡_, refl, _∙_}
+use Prim.Native.Nat.{suc, _≤_, _-_}
+use Rattle.listening.proofs.ListLaws.{none-made, turn-made, answers-all, made-before}
 use Rattle.model.specs.Store.{storeAfter, answersTo}
 use Rattle.little.specs.Little.{written}
 use lib.ListN.{length}
 use borrow.Author.Needs.{needs}
 use native.Mathlib.Omega.{arith}
-use mathlib.Core.Path.{_≡_, refl, ap, _∙_}
-use Prim.Native.Nat.{suc, _+_, _≤_, _-_}
 use Rattle.listening.proofs.lists.make_all.Statement.{statement}
 use Rattle.listening.proofs.lists.make_all.Tie as tie
 
@@ -35,21 +30,14 @@ loop-less c = omega arith
 
 loop-again : tie.Need-loop-again Inv-loop μ-loop
 loop-again c =
-    let start = c .before .before .before .before .before .before .before .before .before .before .before .before .args in
-    let turn = c .before .before .before .before .before .before .before .before .loop in
     let one = c .before .before .before .before .make-one in
-    let s = start .store .now in
-    let ns = start .calls .now in
-    let made = made-before ns (suc (turn .i)) (start .count) (omega arith) (c .before .before .before .before .before .before .before .before .before .before .before .before .pre .2) in
-    let fits : 4 * turn .i + 4 ≤ length (start .answers .now) = omega arith in (
-      omega arith,
-      one .ensures .0 ∙ ap (λ (x : List ℕ). storeAfter x (requestOf (frameAt ns (turn .i)))) (turn .inv .1) ∙ store-next s ns (turn .i),
-      one .ensures .1
-          ∙ ap₂ (λ (x y : List ℕ). written (4 * turn .i) (numbersOf (answersTo x (requestOf (frameAt ns (turn .i))))) y) (turn .inv .1) (turn .inv .2)
-          ∙ answers-next s ns (turn .i) (start .answers .now) made fits,
-      one .kept .0 ∙ turn .inv .3,
-      one .kept .1 .1 .1 .0 ∙ turn .inv .4,
-    )
+    let turn = c .before .before .before .before .before .before .before .before .loop in
+    let start = c .before .before .before .before .before .before .before .before .before .before .before .before in
+    let all = made-before _ (suc (turn .i)) (start .args .count) (omega arith) (start .pre .2) in
+    let next =
+    turn-made (start .args .store .now) (start .args .calls .now) (turn .i) (start .args .answers .now) all (omega arith) (turn .inv .1)
+    (turn .inv .2) (one .ensures .0) (one .ensures .1) in
+    (omega arith, next .0, next .1, one .kept .0 ∙ turn .inv .3, one .kept .1 .1 .1 .0 ∙ turn .inv .4)
 
 same-length : tie.Need-same-length Inv-loop μ-loop
 same-length c = c .before .loop .inv .3

@@ -25,10 +25,13 @@ same-length-2 : tie.Need-same-length-2
 same-length-2 c = search needs
 
 returns : tie.Need-returns
-returns c = one-made (c .before .before .before .before .before .before .before .before .before .before .before .before .before .before .before .args .store .now) (c .before .before .before .before .before .before .before .before .before .before .before .before .before .before .before .args .calls .now) (c .before .before .before .before .before .before .before .before .before .before .before .before .before .before .before .args .answers .now) (c .before .before .before .before .before .before .before .before .before .before .before .before .before .before .before .args .i) (c .before .before .before .before .before .before .before .before .before .before .before .frame-at .result) (c .before .before .before .before .before .before .before .before .before .before .before .frame-at .ensures) _ _ (c .before .before .before .before .before .before .make .result) _ _ (c .before .before .before .before .before .before .before .before .before .frame .given .1) (c .before .before .before .before .before .before .make .ensures) (c .before .before .put-answer .ensures)
+returns c =
+    let made = c .before .before .before .before .before .before in
+    let known = made .before .before .before in
+    one-made _ _ _ _ (known .before .before .frame-at .ensures) (known .frame .given .1) (made .make .ensures) (c .before .before .put-answer .ensures)
 
 returns-2 : tie.Need-returns-2
-returns-2 c = one-passed (c .before .before .before .before .before .before .args .store .now) (c .before .before .before .before .before .before .args .calls .now) (c .before .before .before .before .before .before .args .answers .now) (c .before .before .before .before .before .before .args .i) (c .before .before .frame-at .result) (c .before .before .frame-at .ensures) (c .enum-told .given .1)
+returns-2 c = one-passed _ _ _ _ (c .before .before .frame-at .ensures) (c .enum-told .given .1)
 
 pub make-one-spec : {M : Type 1} → statement M
 make-one-spec =

@@ -1,4 +1,4 @@
-use Rattle.listening.specs.Lists.{numbersOf}
+use Rattle.listening.specs.Lists.{answerLength, numbersOf}
 use Rattle.records.proofs.Laws.{then-set}
 use Rattle.little.proofs.Laws.{set-written}
 use lib.ListN.{length-set}
@@ -52,7 +52,7 @@ returns : tie.Need-returns
 unfolding numbersOf
 returns c =
     let s : List ℕ = c .args .answers .now in
-    let at : ℕ = 4 * c .args .i in
+    let at : ℕ = answerLength * c .args .i in
     let a = c .args .answer in
     let one = set-written at (a .refusal) s (omega arith) in
     let two = then-set at {next = at + 1} (a .refusal ∷ []) (a .first) s one (omega arith) (omega arith) in

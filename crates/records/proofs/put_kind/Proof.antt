@@ -1,4 +1,4 @@
--- `records::put_marks` meets its contract: the stores and the write are neighbours.
+-- `records::put_kind` meets its contract: the stores and the write are neighbours.
 -- Assumes nothing.
 use borrow.Author.Needs.{needs}
 use native.Mathlib.Omega.{arith}
@@ -8,8 +8,8 @@ use Rattle.little.specs.Little.{bytes}
 use Rattle.little.proofs.Laws.{set-written}
 use Rattle.records.proofs.Laws.{then-written, then-set, length-after}
 use lib.ListN.{length-set}
-use Rattle.records.proofs.put_marks.Statement.{statement}
-use Rattle.records.proofs.put_marks.Tie as tie
+use Rattle.records.proofs.put_kind.Statement.{statement}
+use Rattle.records.proofs.put_kind.Tie as tie
 
 slice-write-area : tie.Need-slice-write-area
 slice-write-area c = search needs
@@ -30,15 +30,15 @@ returns : tie.Need-returns
 unfolding bytes
 returns c =
     let args = c .before .before .before .before .before .args in
-    let first = set-written (args .at) (args .first) (args .area .now) (omega arith) in
-    let second = then-set (args .at) (args .first ∷ []) (args .second) (args .area .now) first refl (omega arith) in
-    then-written (args .at) (args .first ∷ args .second ∷ []) (bytes 2 0) (args .area .now) second (c .before .before .put-u16 .ensures) refl (omega arith)
+    let kind = set-written (args .at) (args .kind) (args .area .now) (omega arith) in
+    let beside = then-set (args .at) (args .kind ∷ []) (args .beside) (args .area .now) kind refl (omega arith) in
+    then-written (args .at) (args .kind ∷ args .beside ∷ []) (bytes 2 0) (args .area .now) beside (c .before .before .put-u16 .ensures) refl (omega arith)
 
 same-length : tie.Need-same-length
 same-length c = length-after _ _ _ (returns c) (omega arith)
 
-pub put-marks-spec : {M : Type 1} → statement M
-put-marks-spec =
+pub put-kind-spec : {M : Type 1} → statement M
+put-kind-spec =
     tie.close
     (tie.spec
     slice-write-area
