@@ -22,7 +22,7 @@ use Rattle.replaying.specs.Replaying.{entryOf, oneNumber, NoMore, wellFormed, h
 use Rattle.replaying.proofs.Answers.{accepted, run-formed, run-of, block-formed, block-of, stop-formed, stop-of, no-more}
 use Rattle.replaying.proofs.Heads.{head-is}
 use Rattle.replaying.proofs.Stops.{pause-head, stop-form, stop-accepts}
-use Rattle.replay_continuous.specs.Places.{stateOf, figuresAt, Placed, Known, Headed, standing, nowhere, reached, Reaches}
+use Rattle.replay_continuous.specs.Places.{stateOf, figuresAt, Placed, Known, HeadRead, stoodAt, nowhere, reached, Reaches}
 use Rattle.replay_continuous.proofs.Kept.{run-accepts, block-accepts, cannot-stand}
 
 -- ---- the state that two numbers stand for
@@ -97,7 +97,7 @@ module _ (p : Plan) (kind : p .kind ≡ 3) (left tail acc : ℕ) (start : Figure
 
 -- a record whose head was made, and that was looked through for more numbers
 pub headed-by : (head : ℕ) (r : Record) → (head ≡ headOf r) × (r .kind < 256) × (r .flag < 256)
-    → (more : Bool) → more ≡ not (oneNumber r) → more ≡ false → Headed head r
+    → (more : Bool) → more ≡ not (oneNumber r) → more ≡ false → HeadRead head r
 headed-by head r x more e none =
     record { same = x .0; kindByte = x .1; flagByte = x .2; more = no-more r (not-false (oneNumber r) (sym e ∙ none)) }
 
@@ -132,8 +132,8 @@ module _ (p : Plan) (left tail acc : ℕ) (r : Record) (known : Known p left tai
       → ((start : Figures) (i : ℕ) → isDiscontinued start ≡ false → i < 128
       → accepts p (figuresAt (p .a) start left tail acc) i e ≡ true)
       → ((start : Figures) → stepped p e (figuresAt (p .a) start left tail acc) ≡ figuresAt (p .a) start l t a)
-      → Reaches p left tail acc r (standing l t a)
-  unfolding standing reached soundAt
+      → Reaches p left tail acc r (stoodAt l t a)
+  unfolding stoodAt reached soundAt
   taken e l t a placed form fits step =
       record {
         placed = placed;
@@ -167,14 +167,14 @@ module _ (p : Plan) (left tail acc : ℕ) (r : Record) (known : Known p left tai
   pub more-falls : (NoMore r → ⊥) → Reaches p left tail acc r nowhere
   more-falls more = fallen (λ start i k s m x. more m) (λ start i k s m x. more m) (λ m x. more m)
 
-  module _ (head : ℕ) (headed : Headed head r) where
+  module _ (head : ℕ) (headed : HeadRead head r) where
     parts : (k w : ℕ) → k < 256 → w < 256 → head ≡ k + w * 256 → (r .kind ≡ k) × (r .flag ≡ w) × (r .spare ≡ 0)
     parts k w hk hw e = head-is r k w (headed .kindByte) (headed .flagByte) hk hw (sym (headed .same) ∙ e)
 
     -- a run, right or wrong
     run-taken : (w l : ℕ) → w ≤ 1 → head ≡ 2 + w * 256 → 1 ≤ r .a + w → r .a + w ≤ left → l ≤ p .a
         → afterRun (p .a) (r .a) (eqb w 1) (stateOf (p .a) left tail) ≡ stateOf (p .a) l tail
-        → Reaches p left tail acc r (standing l tail (acc + r .a))
+        → Reaches p left tail acc r (stoodAt l tail (acc + r .a))
     unfolding figuresAt
     run-taken w l flag e some fits most after =
         let x = parts 2 w (omega arith) (omega arith) e in
@@ -197,14 +197,14 @@ module _ (p : Plan) (left tail acc : ℕ) (r : Record) (known : Known p left tai
         }))
         (λ start. run-step p (known .kind) left tail acc start (r .a) (r .flag) l tail (rw (x .1) after))
 
-    pub right-run : head ≡ 2 → within 1 left (r .a) ≡ true → Reaches p left tail acc r (standing (left - r .a) tail (acc + r .a))
+    pub right-run : head ≡ 2 → within 1 left (r .a) ≡ true → Reaches p left tail acc r (stoodAt (left - r .a) tail (acc + r .a))
     right-run e h =
         let range = within-of 1 left (r .a) h in
         let least = known .placed .least in
         run-taken 0 (left - r .a) (omega arith) e (omega arith) (omega arith) (omega arith)
         (run-state p left tail (r .a) (known .placed) (range .0) (range .1))
 
-    pub wrong-run : head ≡ 258 → r .a < left → Reaches p left tail acc r (standing (p .a) tail (acc + r .a))
+    pub wrong-run : head ≡ 258 → r .a < left → Reaches p left tail acc r (stoodAt (p .a) tail (acc + r .a))
     unfolding afterRun
     wrong-run e h =
         run-taken 1 (p .a) (omega arith) e (omega arith) (omega arith) (omega arith) (anew (p .a) tail positive)
@@ -212,7 +212,7 @@ module _ (p : Plan) (left tail acc : ℕ) (r : Record) (known : Known p left tai
     -- a stop moves the state as it does the numbers
     stop-taken : (l t : ℕ) → isStop r ≡ true → Placed p l t
         → afterStop (r .flag) (r .a) (stateOf (p .a) left tail) ≡ stateOf (p .a) l t
-        → Reaches p left tail acc r (standing l t acc)
+        → Reaches p left tail acc r (stoodAt l t acc)
     unfolding figuresAt isDiscontinued
     stop-taken l t h placed after =
         let x = stop-form r (headed .kindByte) h in
@@ -226,7 +226,7 @@ module _ (p : Plan) (left tail acc : ℕ) (r : Record) (known : Known p left tai
     whole = record { least = omega arith; noTail = λ h. refl; short = omega arith }
 
     -- another set-up: screening from 0
-    pub change-taken : (t : ℕ) → t ≡ 0 → isStop r ≡ true → head ≡ 516 → Reaches p left tail acc r (standing (p .a) t acc)
+    pub change-taken : (t : ℕ) → t ≡ 0 → isStop r ≡ true → head ≡ 516 → Reaches p left tail acc r (stoodAt (p .a) t acc)
     unfolding afterStop setUpChanged
     change-taken t none h e =
         let x = parts 4 2 (omega arith) (omega arith) e in
@@ -242,13 +242,13 @@ module _ (p : Plan) (left tail acc : ℕ) (r : Record) (known : Known p left tai
 
     -- a pause that is short, or met in screening
     pub pause-stays : isStop r ≡ true → (head ≡ 516 → ⊥) → eqb left 0 && ltb 3 (r .a) ≡ false
-        → Reaches p left tail acc r (standing left tail acc)
+        → Reaches p left tail acc r (stoodAt left tail acc)
     unfolding afterStop setUpChanged longStop
     pause-stays h other short =
         stop-taken left tail h (known .placed) (rw (pause-flag h other, phase-of (p .a) tail left, short))
 
     -- a long one in sampling
-    pub pause-taken : isStop r ≡ true → (head ≡ 516 → ⊥) → left ≡ 0 → 3 < r .a → Reaches p left tail acc r (standing (p .a) 0 acc)
+    pub pause-taken : isStop r ≡ true → (head ≡ 516 → ⊥) → left ≡ 0 → 3 < r .a → Reaches p left tail acc r (stoodAt (p .a) 0 acc)
     unfolding afterStop setUpChanged longStop
     pause-taken h other none long =
         stop-taken (p .a) 0 h whole
@@ -258,7 +258,7 @@ module _ (p : Plan) (left tail acc : ℕ) (r : Record) (known : Known p left tai
     block-taken : (w l t a : ℕ) → w ≤ 1 → head ≡ 3 + w * 256 → left ≡ 0 → within 1 (p .b) (r .a) ≡ true → Placed p l t
         → afterBlock (p .b) (r .a) (eqb w 1) (stateOf (p .a) left tail) .state ≡ stateOf (p .a) l t
         → afterBlock (p .b) (r .a) (eqb w 1) (stateOf (p .a) left tail) .accepted ≡ a
-        → Reaches p left tail acc r (standing l t (acc + a))
+        → Reaches p left tail acc r (stoodAt l t (acc + a))
     unfolding figuresAt
     block-taken w l t a flag e none counts placed after more =
         let x = parts 3 w (omega arith) (omega arith) e in
@@ -278,7 +278,7 @@ module _ (p : Plan) (left tail acc : ℕ) (r : Record) (known : Known p left tai
         (λ start. block-step p (known .kind) left tail acc start (r .a) (r .flag) l t a (rw (x .1) after) (rw (x .1) more))
 
     pub right-block : head ≡ 3 → left ≡ 0 → within 1 (p .b) (r .a) ≡ true
-        → Reaches p left tail acc r (standing 0 (p .b - r .a) (acc + p .b))
+        → Reaches p left tail acc r (stoodAt 0 (p .b - r .a) (acc + p .b))
     unfolding afterBlock stateOf
     right-block e none counts =
         let plan = continuous-plan p (known .valid) continuous in
@@ -288,7 +288,7 @@ module _ (p : Plan) (left tail acc : ℕ) (r : Record) (known : Known p left tai
         refl
 
     pub wrong-block : left ≡ 0 → within 1 (p .b) (r .a) && eqb head 259 ≡ true
-        → Reaches p left tail acc r (standing (p .a) 0 (acc + (r .a - 1)))
+        → Reaches p left tail acc r (stoodAt (p .a) 0 (acc + (r .a - 1)))
     unfolding afterBlock
     wrong-block none h =
         let both = both-true (within 1 (p .b) (r .a)) (eqb head 259) h in

@@ -5,6 +5,7 @@ use mathlib.Core.Bool.{true, false, cond}
 use lib.Dec.{T, eqb}
 use Rattle.plans.specs.declared.continuous.Continuous.{Continuous}
 use Rattle.plans.specs.Continuous.{screening, sampling, isSampling}
+use Rattle.plans.specs.Limits.{largestInterval}
 use Rattle.model.specs.declared.Plan.{Plan}
 use Rattle.model.specs.declared.Figures.{Figures}
 use Rattle.model.specs.Sizes.{mostRecords}
@@ -39,7 +40,7 @@ figuresAt clearance start left tail accepted =
 pub record Placed (p : Plan) (left tail : ℕ) : Type 0 where
   pub least : left ≤ p .a
   pub noTail : 1 ≤ left → tail ≡ 0
-  pub short : tail ≤ 200
+  pub short : tail ≤ largestInterval
 
 -- what is known before a record is entered
 pub record Known (p : Plan) (left tail accepted : ℕ) : Type 0 where
@@ -49,15 +50,15 @@ pub record Known (p : Plan) (left tail accepted : ℕ) : Type 0 where
   pub few : accepted ≤ 128000000
 
 -- a record with this head, and no number but the first
-pub record Headed (head : ℕ) (r : Record) : Type 0 where
+pub record HeadRead (head : ℕ) (r : Record) : Type 0 where
   pub same : head ≡ headOf r
   pub kindByte : r .kind < 256
   pub flagByte : r .flag < 256
   pub more : NoMore r
 
 -- the place after a record that stands, and the one where none is
-unfoldable pub standing : ℕ → ℕ → ℕ → Place
-standing left tail accepted = record { stands = true; left = left; tail = tail; accepted = accepted }
+unfoldable pub stoodAt : ℕ → ℕ → ℕ → Place
+stoodAt left tail accepted = record { stands = true; left = left; tail = tail; accepted = accepted }
 
 unfoldable pub nowhere : Place
 nowhere = record { stands = false; left = 0; tail = 0; accepted = 0 }

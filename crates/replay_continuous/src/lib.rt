@@ -8,7 +8,7 @@ ghost use Prim.Native.Nat.{_≤_};
 ghost use lib.Dec.{eqb};
 ghost use Rattle.model.specs.Stations.{within as isWithin};
 ghost use Rattle.replaying.specs.Replaying.{oneNumber, Ready, Replayed};
-ghost use Rattle.replay_continuous.specs.Places.{leftOf, stateOf, figuresAt, standing, nowhere, Known, Headed, Reaches};
+ghost use Rattle.replay_continuous.specs.Places.{leftOf, stateOf, figuresAt, stoodAt, nowhere, Known, HeadRead, Reaches};
 use model::Figures;
 use model::Plan;
 use plans::continuous;
@@ -86,7 +86,7 @@ fn enter_screening(
     head: u32,
     read: Record,
 ) -> Place
-    requires { ⌜ Known plan left tail accepted × Headed head read × (1 ≤ left) × (head ≡ 2 → ⊥) ⌝ }
+    requires { ⌜ Known plan left tail accepted × HeadRead head read × (1 ≤ left) × (head ≡ 2 → ⊥) ⌝ }
     ensures { λ r. ⌜ Reaches plan left tail accepted read r ⌝ }
 {
     if head == replaying::RUN_WRONG {
@@ -107,7 +107,7 @@ fn enter_screening(
 
 // Enters a record in sampling.
 fn enter_sampling(plan: Plan, tail: u32, accepted: u64, head: u32, read: Record) -> Place
-    requires { ⌜ Known plan 0 tail accepted × Headed head read ⌝ }
+    requires { ⌜ Known plan 0 tail accepted × HeadRead head read ⌝ }
     ensures { λ r. ⌜ Reaches plan 0 tail accepted read r ⌝ }
 {
     let heard = read.a;
@@ -154,7 +154,7 @@ fn has_more(read: Record) -> bool
 
 // The place after a record that stands.
 fn stand(left: u32, tail: u32, accepted: u64) -> Place
-    ensures { λ r. ⌜ r ≡ standing left tail accepted ⌝ }
+    ensures { λ r. ⌜ r ≡ stoodAt left tail accepted ⌝ }
 {
     Place {
         stands: true,

@@ -3,6 +3,7 @@ use Prim.Native.Nat.{ℕ, _+_, _≤_}
 use mathlib.Core.Bool.{Bool, cond, _&&_}
 use lib.Dec.{eqb}
 use Rattle.plans.specs.Credit.{creditSample, creditVerdict, creditAfter}
+use Rattle.plans.specs.Limits.{largestAoql}
 use Rattle.plans.specs.Verdicts.{acceptedOf}
 use Rattle.model.specs.declared.Plan.{Plan}
 use Rattle.model.specs.declared.Figures.{Figures}
@@ -28,7 +29,7 @@ carriedFrom f = record { credit = f .credit .0; accepted = f .accepted; newest =
 pub record Bounded (p : Plan) (s : Carried) : Type 0 where
   pub credits : s .credit ≤ 127000000
   pub acceptedIn : s .accepted ≤ 127000000
-  pub limit : p .a ≤ 500000
+  pub limit : p .a ≤ largestAoql
 
 -- a lot's record: label a, size b, wrong in the sample c, wrong in all that was heard d
 

@@ -22,6 +22,7 @@ use plans::LotSize;
 use plans::continuous::Continuous;
 use plans::credit::Credit;
 use plans::level::LevelState;
+use plans::limits;
 use plans::verdict;
 use records::Record;
 use replaying::Entered;
@@ -141,7 +142,7 @@ fn may_follow(carried: Carried, read: Record) -> bool
     if read.a as u64 == carried.newest {
         return false;
     }
-    plan::within(1, 1000000, read.b)
+    plan::within(1, limits::LARGEST_LOT, read.b)
 }
 
 // Only a lot with something wrong has its sample worked out: what refusal 13 leaves of it, and what it then changes.

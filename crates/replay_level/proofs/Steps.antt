@@ -22,7 +22,7 @@ use Rattle.replaying.proofs.LotStreams.{one-comparison, lot-numbers, stop-numbe
 use Rattle.replay_level.specs.declared.Carried.{Carried}
 use Rattle.replay_level.specs.declared.Step.{Step}
 use Rattle.replay_level.specs.declared.Step.the-variants.{Stands, Fails}
-use Rattle.replay_level.specs.Carrying.{figuresIn, fitsSample, afterLot, afterStop, lotStep, stopStep, stepOf}
+use Rattle.replay_level.specs.Carrying.{figuresIn, fitsSample, afterLot, pastStop, lotStep, stopStep, stepOf}
 
 -- a step in the figures that it is about
 unfoldable pub enteredAs : Figures → Step → Entered
@@ -80,8 +80,8 @@ module _ (p : Plan) (kind : p .kind ≡ 2) (s : Carried) (r : Record) where
   lot-stepped word n =
       lot-numbers 0 (s .state) (s .accepted) (s .newest) p (r .a) (r .b) n (r .c) (r .d) word ∙ rw (judged, kind)
 
-  stop-stepped : stepped p (Stop (r .flag) (r .a)) (figuresIn s) ≡ figuresIn (afterStop s r)
-  unfolding figuresIn afterStop levelStep isLevel
+  stop-stepped : stepped p (Stop (r .flag) (r .a)) (figuresIn s) ≡ figuresIn (pastStop s r)
+  unfolding figuresIn pastStop levelStep isLevel
   stop-stepped = stop-numbers 0 (s .state) (s .accepted) (s .newest) p (r .flag) (r .a) lots ∙ rw kind
 
   pub step-entered : (i : ℕ) → i < 128 → r .kind < 256 → r .flag < 256 → r .a < noLabel
@@ -97,4 +97,4 @@ module _ (p : Plan) (kind : p .kind ≡ 2) (s : Carried) (r : Record) where
           ∙ by-test (mayFollow 2 (s .newest) r && fitsSample (p .a) (s .state .level) r) (figuresIn s) (afterLot p s r)
       go false false on e =
           stop-entered p (figuresIn s) i r lots on room kinds _ (eqb-false (headOf r) 1 e) stop-stepped
-          ∙ by-test (isStop r) (figuresIn s) (afterStop s r)
+          ∙ by-test (isStop r) (figuresIn s) (pastStop s r)

@@ -3,6 +3,7 @@ use Prim.Native.Nat.{ℕ, _+_, _≤_}
 use mathlib.Core.Bool.{Bool, cond, _&&_}
 use lib.Dec.{eqb, ltb, leb}
 use Rattle.plans.specs.Severities.{discontinued}
+use Rattle.plans.specs.Limits.{verificationLevels}
 use Rattle.plans.specs.Verdicts.{levelVerdict, acceptedOf}
 use Rattle.plans.specs.Tables.{levelSample}
 use Rattle.plans.specs.Levels.{judgedLot, metStop}
@@ -30,7 +31,7 @@ pub record Bounded (p : Plan) (s : Carried) : Type 0 where
   pub judgedLots : s .state .judged ≤ 127
   pub acceptedIn : s .accepted ≤ 127000000
   pub least : 1 ≤ p .a
-  pub most : p .a ≤ 7
+  pub most : p .a ≤ verificationLevels
 
 -- a lot's record: label a, size b, wrong in the sample c, wrong in all that was heard d
 
@@ -50,11 +51,11 @@ unfoldable pub lotStep : Plan → Carried → Record → Step
 lotStep p s r = cond (mayFollow 2 (s .newest) r && fitsSample (p .a) (s .state .level) r) (Stands (afterLot p s r)) Fails
 
 -- a stop's record: days a
-unfoldable pub afterStop : Carried → Record → Carried
-afterStop s r = record { state = metStop (r .flag) (r .a) (s .state); accepted = s .accepted; newest = s .newest }
+unfoldable pub pastStop : Carried → Record → Carried
+pastStop s r = record { state = metStop (r .flag) (r .a) (s .state); accepted = s .accepted; newest = s .newest }
 
 unfoldable pub stopStep : Carried → Record → Step
-stopStep s r = cond (isStop r) (Stands (afterStop s r)) Fails
+stopStep s r = cond (isStop r) (Stands (pastStop s r)) Fails
 
 -- nothing is accepted on a discontinued stream; elsewhere a lot's record, or else a stop's
 unfoldable pub stepOf : Plan → Carried → Record → Step

@@ -24,6 +24,7 @@ use plans::continuous::Continuous;
 use plans::credit::Credit;
 use plans::level;
 use plans::level::LevelState;
+use plans::limits;
 use plans::tables;
 use records::Record;
 use replaying::Entered;
@@ -149,7 +150,7 @@ fn may_follow(carried: Carried, read: Record) -> bool
     if read.a as u64 == carried.newest {
         return false;
     }
-    plan::within(2, 1000000, read.b)
+    plan::within(2, limits::LARGEST_LOT, read.b)
 }
 
 // A lot with something wrong is withheld, where refusal 13 leaves it. It is judged first, so that the state before it need not be

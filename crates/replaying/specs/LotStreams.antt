@@ -4,6 +4,7 @@ use Prim.Native.Nat.{ℕ, _%_}
 use mathlib.Core.Bool.{Bool, cond, not, _&&_}
 use lib.Dec.{eqb, ltb}
 use Rattle.plans.specs.Continuous.{screening}
+use Rattle.plans.specs.Limits.{largestLot}
 use Rattle.plans.specs.declared.level.LevelState.{LevelState}
 use Rattle.model.specs.declared.Figures.{Figures}
 use Rattle.model.specs.Stations.{within}
@@ -31,4 +32,4 @@ lotFigures credit level accepted newest =
 
 -- what refusals 10 and 11 leave of a lot's record, label a and size b: another label than the newest, a size in range
 unfoldable pub mayFollow : ℕ → ℕ → Record → Bool
-mayFollow least newest r = not (eqb (r .a) newest) && within least 1000000 (r .b)
+mayFollow least newest r = not (eqb (r .a) newest) && within least largestLot (r .b)

@@ -6,6 +6,7 @@ use mathlib.Core.Path.{_≡_}
 use lib.Dec.{T, eqb, leb}
 use lib.ListN.{length}
 use Rattle.little.specs.Little.{part}
+use Rattle.plans.specs.Limits.{longestStop}
 use Rattle.model.specs.declared.Plan.{Plan}
 use Rattle.model.specs.declared.Entry.{Entry}
 use Rattle.model.specs.declared.Entry.the-variants.{Lot, Run, Block, Stop}
@@ -47,9 +48,9 @@ wellFormed r =
 unfoldable pub headOf : Record → ℕ
 headOf r = r .kind + r .flag * 256 + r .spare * 65536
 
--- a record of a stop whose arguments no stream refuses: a pause of up to 255 days, or another set-up
+-- a record of a stop whose arguments no stream refuses: a pause of up to `longestStop` days, or another set-up
 unfoldable pub isStop : Record → Bool
-isStop r = oneNumber r && cond (eqb (headOf r) 260) (leb (r .a) 255) (eqb (headOf r) 516 && eqb (r .a) 0)
+isStop r = oneNumber r && cond (eqb (headOf r) 260) (leb (r .a) longestStop) (eqb (headOf r) 516 && eqb (r .a) 0)
 
 -- a lot's record with nothing wrong in the sample, nor in all that was heard
 unfoldable pub noneWrong : Record → Bool

@@ -8,6 +8,7 @@ ghost use Rattle.records.specs.Records.{recordIn, recordAt};
 ghost use Rattle.replaying.specs.Replaying.{headOf, isStop, noneWrong};
 use model::Figures;
 use model::sizes;
+use plans::limits;
 use records::Record;
 
 // Records entered: whether each could stand there, and the figures after them.
@@ -57,7 +58,7 @@ pub fn is_stop(head: u32, read: Record) -> bool
         return false;
     }
     if head == PAUSE {
-        return read.a <= 255;
+        return read.a <= limits::LONGEST_STOP;
     }
     if head == CHANGE {
         return read.a == 0;

@@ -1,10 +1,10 @@
 use mathlib.Core.Path.{refl}
-use Rattle.replay_continuous.specs.Places.{standing}
+use Rattle.replay_continuous.specs.Places.{stoodAt}
 use Rattle.replay_continuous.proofs.stand.Statement.{statement}
 use Rattle.replay_continuous.proofs.stand.Tie as tie
 
 returns : tie.Need-returns
-unfolding standing
+unfolding stoodAt
 returns c = refl
 
 pub stand-spec : {M : Type 1} → statement M

@@ -1,5 +1,5 @@
 use borrow.Author.Tests.{not-true, not-false}
-use Rattle.replay_level.specs.Carrying.{afterStop, stopStep}
+use Rattle.replay_level.specs.Carrying.{pastStop, stopStep}
 use borrow.Author.Needs.{needs}
 use Rattle.replay_level.proofs.enter_stop.Statement.{statement}
 use Rattle.replay_level.proofs.enter_stop.Tie as tie
@@ -24,7 +24,7 @@ meet-stop-requires : tie.Need-meet-stop-requires
 meet-stop-requires c κs = search needs
 
 returns-2 : tie.Need-returns-2
-unfolding stopStep afterStop
+unfolding stopStep pastStop
 returns-2 c =
     let tested = c .before .before .before .before in
     rw (
