@@ -126,8 +126,8 @@ fn fits_header(area: &[u8], plan: Plan, figures: Figures, from: usize, to: usize
 }
 
 // The replay of the newest records. The loops are chosen here once more, so that each has two callers: it is then compiled as a
-// function of its own, with the registers for itself. Chosen in one place, all three end up inside `read`, and a record costs up to
-// 17 per cent more instructions.
+// function of its own, with the registers for itself. Chosen in one place, all three are inlined there, and a record costs up to 14
+// per cent more instructions.
 fn replay_newest(area: &[u8], plan: Plan, figures: Figures, from: usize, to: usize) -> Entered
     requires { ⌜ Ready plan (now area) figures from to ⌝ }
     ensures { λ r. ⌜ Replayed plan (now (area .entry)) to r ⌝ }
