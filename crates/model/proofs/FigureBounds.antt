@@ -108,14 +108,14 @@ module _ (p : Plan) (f : Figures) (n : ℕ) (known : FiguresWithin n f) where
         phases = known .phases;
         tails = known .tails;
         acceptedIn = omega (arith, accepted-of-at-most (verdictOn p f d) N D);
-        labels = word;
+        labels = omega arith;
       }
 
   -- an entry that is no lot leaves the credit and the label
-  no-lot-entered : (after : Figures) → after .credit .0 ≡ f .credit .0 → after .label ≡ f .label
+  no-lot-entered : (after : Figures) → after .credit .0 ≡ f .credit .0 → after .newest ≡ f .newest
       → LevelWithin (suc n) (after .level) → ContinuousWithin (after .continuous) → after .accepted ≤ f .accepted + largestLot
       → FiguresWithin (suc n) after
-  no-lot-entered after credit label level continuous accepted =
+  no-lot-entered after credit newest level continuous accepted =
       record {
         credits = omega arith;
         levels = level;

@@ -1,10 +1,11 @@
 -- How far the standing entries can take a stream's figures: paper 01, "The store", bytes 16 to 39. Credit and accepted detections grow
 -- by at most a lot's size with each entry, and the rest is held by the refusals: so every figure fits its bytes, and no sum of
 -- the code overflows. Assumes nothing.
-use Prim.Native.Nat.{ℕ, _*_, _^_, _≤_, _<_}
+use Prim.Native.Nat.{ℕ, _*_, _≤_}
 use Rattle.plans.specs.Limits.{largestLot, largestClearance, largestInterval}
 use Rattle.plans.specs.LevelBounds.{LevelWithin}
 use Rattle.model.specs.declared.Figures.{Figures}
+use Rattle.model.specs.Figuring.{noLabel}
 
 -- the figures of a stream with at most n standing entries
 pub record FiguresWithin (n : ℕ) (f : Figures) : Type 0 where
@@ -14,4 +15,4 @@ pub record FiguresWithin (n : ℕ) (f : Figures) : Type 0 where
   pub phases : f .continuous .phase ≤ 1
   pub tails : f .continuous .tail ≤ largestInterval
   pub acceptedIn : f .accepted ≤ largestLot * n
-  pub labels : f .label < 2 ^ 32
+  pub labels : f .newest ≤ noLabel

@@ -17,6 +17,10 @@ use Rattle.model.specs.declared.Entry.the-variants.{Lot, Run, Block, Sto
 use Rattle.model.specs.declared.Figures.{Figures}
 use Rattle.model.specs.Stations.{isCredit, isLevel, isContinuous, hasOption}
 
+-- in place of the newest lot's label where no lot stands: 2 ^ 32, as large as no label is
+abbrev pub noLabel : ℕ
+noLabel = 4294967296
+
 -- the level figures of a stream that has none
 unfoldable pub noLevel : LevelState
 noLevel = record { level = 0; row = 0; judged = 0; window = 0 }
@@ -29,8 +33,7 @@ withLevel level =
       level = level;
       continuous = screening 0;
       accepted = 0;
-      labelled = false;
-      label = 0;
+      newest = noLabel;
     }
 
 -- the figures when a stream is opened; figures foreign to the plan are zero
@@ -90,8 +93,7 @@ stepped p e f =
       level = levelStep p e (f .level);
       continuous = continuousStep p e (f .continuous);
       accepted = f .accepted + acceptedBy p f e;
-      labelled = cond (isLot e) true (f .labelled);
-      label = cond (isLot e) (labelOf e) (f .label);
+      newest = cond (isLot e) (labelOf e) (f .newest);
     }
 
 -- the figures of a stream with these standing entries

@@ -32,8 +32,7 @@ figuresAt clearance start left tail accepted =
       level = start .level;
       continuous = stateOf clearance left tail;
       accepted = accepted;
-      labelled = start .labelled;
-      label = start .label;
+      newest = start .newest;
     }
 
 -- what is left and the tail can be so together

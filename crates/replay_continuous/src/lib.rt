@@ -215,7 +215,6 @@ fn figures_at(clearance: u32, start: Figures, left: u32, tail: u32, accepted: u6
         level,
         continuous,
         accepted,
-        labelled: start.labelled,
-        label: start.label,
+        newest: start.newest,
     }
 }

@@ -9,12 +9,12 @@ use Rattle.model.specs.declared.Figures.{Figures}
 use Rattle.model.specs.declared.Entry.the-variants.{Lot, Stop}
 use Rattle.model.specs.Stations.{isCredit, isLevel, isContinuous}
 use Rattle.model.specs.Figuring.{noLevel, sampleAsked, verdictOn, creditStep, levelStep, stepped}
-use Rattle.model.specs.Calls.{isDiscontinued, sizeInRange, accepts}
+use Rattle.model.specs.Calls.{isDiscontinued, sameLabel, sizeInRange, accepts}
 use Rattle.records.specs.declared.Record.{Record}
 use Rattle.replaying.specs.declared.Entered.{Entered}
 use Rattle.replaying.specs.Replaying.{headOf, isStop, enteredIf, entered, soundAt, unsoundAt}
-use Rattle.replaying.specs.LotStreams.{noLabel, lotFigures, mayFollow}
-use Rattle.replaying.proofs.LotStreams.{one-comparison, lot-numbers, stop-numbers, lotFits, lot-entered, stop-entered}
+use Rattle.replaying.specs.LotStreams.{lotFigures, mayFollow}
+use Rattle.replaying.proofs.LotStreams.{lot-numbers, stop-numbers, lotFits, lot-entered, stop-entered}
 use Rattle.replay_credit.specs.declared.Carried.{Carried}
 use Rattle.replay_credit.specs.declared.Step.{Step}
 use Rattle.replay_credit.specs.declared.Step.the-variants.{Stands, Fails}
@@ -43,29 +43,29 @@ module _ (p : Plan) (kind : p .kind ≡ 1) (s : Carried) (r : Record) where
   unfolding verdictOn isCredit verdictIn figuresIn lotFigures
   judged = rw kind
 
-  lot-fits : r .a < noLabel → lotFits p (figuresIn s) r ≡ mayFollow 1 (s .newest) r && countsFit p s r
-  unfolding sizeInRange isLevel sampleAsked isCredit figuresIn lotFigures mayFollow countsFit
-  lot-fits word = rw (judged, one-comparison (s .credit) noLevel (s .accepted) (s .newest) (r .a) word, kind)
+  lot-fits : lotFits p (figuresIn s) r ≡ mayFollow 1 (s .newest) r && countsFit p s r
+  unfolding sameLabel sizeInRange isLevel sampleAsked isCredit figuresIn lotFigures mayFollow countsFit
+  lot-fits = rw (judged, kind)
 
-  lot-stepped : r .a < noLabel → (n : ℕ) → stepped p (Lot (r .a) (r .b) n (r .c) (r .d)) (figuresIn s) ≡ figuresIn (afterLot p s r)
+  lot-stepped : (n : ℕ) → stepped p (Lot (r .a) (r .b) n (r .c) (r .d)) (figuresIn s) ≡ figuresIn (afterLot p s r)
   unfolding figuresIn afterLot creditStep isCredit levelStep isLevel
-  lot-stepped word n =
-      lot-numbers (s .credit) noLevel (s .accepted) (s .newest) p (r .a) (r .b) n (r .c) (r .d) word ∙ rw (judged, kind)
+  lot-stepped n =
+      lot-numbers (s .credit) noLevel (s .accepted) (s .newest) p (r .a) (r .b) n (r .c) (r .d) ∙ rw (judged, kind)
 
   -- "On credit streams it is entered without effect"
   stop-stepped : stepped p (Stop (r .flag) (r .a)) (figuresIn s) ≡ figuresIn s
   unfolding figuresIn levelStep isLevel
   stop-stepped = stop-numbers (s .credit) noLevel (s .accepted) (s .newest) p (r .flag) (r .a) lots ∙ rw kind
 
-  pub step-entered : (i : ℕ) → i < 128 → r .kind < 256 → r .flag < 256 → r .a < noLabel
+  pub step-entered : (i : ℕ) → i < 128 → r .kind < 256 → r .flag < 256
       → entered p (figuresIn s) i r ≡ enteredAs (figuresIn s) (stepOf p s r)
   unfolding stepOf lotStep stopStep
-  step-entered i room kinds flags word = go (eqb (headOf r) 1) refl
+  step-entered i room kinds flags = go (eqb (headOf r) 1) refl
     where
       go : (b : Bool) → eqb (headOf r) 1 ≡ b
           → entered p (figuresIn s) i r ≡ enteredAs (figuresIn s) (cond b (lotStep p s r) (stopStep s r))
       go true e =
-          lot-entered p (figuresIn s) i r lots running room kinds _ flags (eqb-true (headOf r) 1 e) _ (lot-fits word) (lot-stepped word _)
+          lot-entered p (figuresIn s) i r lots running room kinds _ flags (eqb-true (headOf r) 1 e) _ lot-fits (lot-stepped _)
           ∙ by-test (mayFollow 1 (s .newest) r && countsFit p s r) (figuresIn s) (afterLot p s r)
       go false e =
           stop-entered p (figuresIn s) i r lots running room kinds _ (eqb-false (headOf r) 1 e) stop-stepped

@@ -12,7 +12,7 @@ use Rattle.model.specs.Figuring.{noLevel}
 use Rattle.model.specs.Calls.{countsAgree}
 use Rattle.records.specs.declared.Record.{Record}
 use Rattle.replaying.specs.Replaying.{headOf, isStop}
-use Rattle.replaying.specs.LotStreams.{newestOf, lotFigures, mayFollow}
+use Rattle.replaying.specs.LotStreams.{lotFigures, mayFollow}
 use Rattle.replay_credit.specs.declared.Carried.{Carried}
 use Rattle.replay_credit.specs.declared.Step.{Step}
 use Rattle.replay_credit.specs.declared.Step.the-variants.{Stands, Fails}
@@ -23,7 +23,7 @@ figuresIn s = lotFigures (s .credit) noLevel (s .accepted) (s .newest)
 
 -- and back
 unfoldable pub carriedFrom : Figures → Carried
-carriedFrom f = record { credit = f .credit .0; accepted = f .accepted; newest = newestOf f }
+carriedFrom f = record { credit = f .credit .0; accepted = f .accepted; newest = f .newest }
 
 -- what the sums ask for, so that none overflows: the numbers of at most 127 records, and an AOQL in range
 pub record Bounded (p : Plan) (s : Carried) : Type 0 where

@@ -26,7 +26,6 @@ use plans::limits;
 use plans::verdict;
 use records::Record;
 use replaying::Entered;
-use replaying::NO_LABEL;
 use rules::plan;
 use rules::refusing;
 
@@ -34,7 +33,6 @@ use rules::refusing;
 struct Carried {
     credit: u32,
     accepted: u64,
-    // The newest lot's label, or NO_LABEL: one comparison tells whether the next lot has another.
     newest: u64,
 }
 
@@ -74,11 +72,7 @@ fn carried_from(figures: Figures) -> Carried
     Carried {
         credit: credit.0,
         accepted: figures.accepted,
-        newest: if figures.labelled {
-            figures.label as u64
-        } else {
-            NO_LABEL
-        },
+        newest: figures.newest,
     }
 }
 
@@ -96,8 +90,7 @@ fn figures_of(carried: Carried) -> Figures
         },
         continuous: Continuous::screen(0),
         accepted: carried.accepted,
-        labelled: carried.newest < NO_LABEL,
-        label: (carried.newest % NO_LABEL) as u32,
+        newest: carried.newest,
     }
 }
 

@@ -13,12 +13,12 @@ use Rattle.model.specs.declared.Entry.{Entry}
 use Rattle.model.specs.declared.Entry.the-variants.{Lot, Run, Block, Stop}
 use Rattle.model.specs.Stations.{isCredit, isLevel, isContinuous}
 use Rattle.model.specs.Figuring.{sampleAsked, verdictOn, creditStep, levelStep, stepped}
-use Rattle.model.specs.Calls.{firstOf, entryRefusals, isDiscontinued, sizeInRange, countsAgree, accepts}
+use Rattle.model.specs.Calls.{firstOf, entryRefusals, isDiscontinued, sameLabel, sizeInRange, countsAgree, accepts}
 use Rattle.records.specs.declared.Record.{Record}
 use Rattle.replaying.specs.declared.Entered.{Entered}
 use Rattle.replaying.specs.Replaying.{entryOf, wellFormed, stands, headOf, isStop, enteredIf, entered, soundAt, unsoundAt}
-use Rattle.replaying.specs.LotStreams.{noLabel, lotFigures, mayFollow}
-use Rattle.replaying.proofs.LotStreams.{one-comparison, lot-numbers, stop-numbers, lotFits, lot-entered, stop-entered}
+use Rattle.replaying.specs.LotStreams.{lotFigures, mayFollow}
+use Rattle.replaying.proofs.LotStreams.{lot-numbers, stop-numbers, lotFits, lot-entered, stop-entered}
 use Rattle.replay_level.specs.declared.Carried.{Carried}
 use Rattle.replay_level.specs.declared.Step.{Step}
 use Rattle.replay_level.specs.declared.Step.the-variants.{Stands, Fails}
@@ -65,35 +65,34 @@ module _ (p : Plan) (kind : p .kind ≡ 2) (s : Carried) (r : Record) where
   unfolding verdictOn isCredit
   judged = rw kind
 
-  lot-fits : r .a < noLabel → lotFits p (figuresIn s) r ≡ mayFollow 2 (s .newest) r && fitsSample (p .a) (s .state .level) r
-  unfolding sizeInRange isLevel sampleAsked isCredit figuresIn lotFigures mayFollow fitsSample
-  lot-fits word =
+  lot-fits : lotFits p (figuresIn s) r ≡ mayFollow 2 (s .newest) r && fitsSample (p .a) (s .state .level) r
+  unfolding sameLabel sizeInRange isLevel sampleAsked isCredit figuresIn lotFigures mayFollow fitsSample
+  lot-fits =
       rw (
         judged,
-        one-comparison 0 (s .state) (s .accepted) (s .newest) (r .a) word,
         kind,
         counts-agree (r .b) (levelSample (p .a) (s .state .level) (r .b)) (r .c) (r .d),
       )
 
-  lot-stepped : r .a < noLabel → (n : ℕ) → stepped p (Lot (r .a) (r .b) n (r .c) (r .d)) (figuresIn s) ≡ figuresIn (afterLot p s r)
+  lot-stepped : (n : ℕ) → stepped p (Lot (r .a) (r .b) n (r .c) (r .d)) (figuresIn s) ≡ figuresIn (afterLot p s r)
   unfolding figuresIn afterLot creditStep isCredit levelStep isLevel
-  lot-stepped word n =
-      lot-numbers 0 (s .state) (s .accepted) (s .newest) p (r .a) (r .b) n (r .c) (r .d) word ∙ rw (judged, kind)
+  lot-stepped n =
+      lot-numbers 0 (s .state) (s .accepted) (s .newest) p (r .a) (r .b) n (r .c) (r .d) ∙ rw (judged, kind)
 
   stop-stepped : stepped p (Stop (r .flag) (r .a)) (figuresIn s) ≡ figuresIn (pastStop s r)
   unfolding figuresIn pastStop levelStep isLevel
   stop-stepped = stop-numbers 0 (s .state) (s .accepted) (s .newest) p (r .flag) (r .a) lots ∙ rw kind
 
-  pub step-entered : (i : ℕ) → i < 128 → r .kind < 256 → r .flag < 256 → r .a < noLabel
+  pub step-entered : (i : ℕ) → i < 128 → r .kind < 256 → r .flag < 256
       → entered p (figuresIn s) i r ≡ enteredAs (figuresIn s) (stepOf p s r)
   unfolding stepOf lotStep stopStep enteredAs isDiscontinued figuresIn lotFigures
-  step-entered i room kinds flags word = go (eqb (s .state .level) discontinued) (eqb (headOf r) 1) refl refl
+  step-entered i room kinds flags = go (eqb (s .state .level) discontinued) (eqb (headOf r) 1) refl refl
     where
       go : (ended lot : Bool) → eqb (s .state .level) discontinued ≡ ended → eqb (headOf r) 1 ≡ lot
           → entered p (figuresIn s) i r ≡ enteredAs (figuresIn s) (cond ended Fails (cond lot (lotStep p s r) (stopStep s r)))
       go true lot over e = ended-entered p (figuresIn s) i lots over r
       go false true on e =
-          lot-entered p (figuresIn s) i r lots on room kinds _ flags (eqb-true (headOf r) 1 e) _ (lot-fits word) (lot-stepped word _)
+          lot-entered p (figuresIn s) i r lots on room kinds _ flags (eqb-true (headOf r) 1 e) _ lot-fits (lot-stepped _)
           ∙ by-test (mayFollow 2 (s .newest) r && fitsSample (p .a) (s .state .level) r) (figuresIn s) (afterLot p s r)
       go false false on e =
           stop-entered p (figuresIn s) i r lots on room kinds _ (eqb-false (headOf r) 1 e) stop-stepped

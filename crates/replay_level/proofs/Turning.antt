@@ -15,7 +15,7 @@ use Rattle.model.proofs.Backward.{credit-backward}
 use Rattle.records.specs.Records.{recordIn, recordAt}
 use Rattle.replaying.specs.Replaying.{entered, soundAt, unsoundAt, recordsIn, figuresTo, Ready, Replayed}
 use Rattle.replaying.specs.LotStreams.{lotFigures}
-use Rattle.replaying.proofs.Heads.{kind-byte, flag-byte, label-word}
+use Rattle.replaying.proofs.Heads.{kind-byte, flag-byte}
 use Rattle.replaying.proofs.Turns.{ready-within, turn-taken, turn-failed}
 use Rattle.replaying.proofs.LotStreams.{numbers-kept}
 use Rattle.replay_level.specs.declared.Carried.{Carried}
@@ -50,7 +50,7 @@ module _ (p : Plan) (kind : p .kind ≡ 2) (area : List ℕ) (bytes : AreBytes a
         let room : i < 128 = omega arith in
         sym (
         step-entered p kind s (recordIn (recordAt area i)) i room (kind-byte area i (ready .whole) bytes room)
-        (flag-byte area i (ready .whole) bytes room) (label-word area i (ready .whole) bytes room)
+        (flag-byte area i (ready .whole) bytes room)
         )
 
     pub turned : (next : Carried) → Stands next ≡ stepOf p s (recordIn (recordAt area i)) → Ready p area (figuresIn next) (i + 1) to

@@ -12,7 +12,7 @@ use Rattle.model.specs.declared.Figures.{Figures}
 use Rattle.model.specs.Stations.{hasOption}
 use Rattle.records.specs.declared.Record.{Record}
 use Rattle.replaying.specs.Replaying.{headOf, isStop}
-use Rattle.replaying.specs.LotStreams.{newestOf, lotFigures, mayFollow}
+use Rattle.replaying.specs.LotStreams.{lotFigures, mayFollow}
 use Rattle.replay_level.specs.declared.Carried.{Carried}
 use Rattle.replay_level.specs.declared.Step.{Step}
 use Rattle.replay_level.specs.declared.Step.the-variants.{Stands, Fails}
@@ -23,7 +23,7 @@ figuresIn s = lotFigures 0 (s .state) (s .accepted) (s .newest)
 
 -- and back
 unfoldable pub carriedFrom : Figures → Carried
-carriedFrom f = record { state = f .level; accepted = f .accepted; newest = newestOf f }
+carriedFrom f = record { state = f .level; accepted = f .accepted; newest = f .newest }
 
 -- what the sums and the sample ask for: the numbers of at most 127 records, and a stated level
 pub record Bounded (p : Plan) (s : Carried) : Type 0 where

@@ -28,14 +28,12 @@ use plans::limits;
 use plans::tables;
 use records::Record;
 use replaying::Entered;
-use replaying::NO_LABEL;
 use rules::plan;
 
 // What a record of a level stream can change.
 struct Carried {
     state: LevelState,
     accepted: u64,
-    // The newest lot's label, or NO_LABEL: one comparison tells whether the next lot has another.
     newest: u64,
 }
 
@@ -75,11 +73,7 @@ fn carried_from(figures: Figures) -> Carried
     Carried {
         state,
         accepted: figures.accepted,
-        newest: if figures.labelled {
-            figures.label as u64
-        } else {
-            NO_LABEL
-        },
+        newest: figures.newest,
     }
 }
 
@@ -93,8 +87,7 @@ fn figures_of(carried: Carried) -> Figures
         level,
         continuous: Continuous::screen(0),
         accepted: carried.accepted,
-        labelled: carried.newest < NO_LABEL,
-        label: (carried.newest % NO_LABEL) as u32,
+        newest: carried.newest,
     }
 }
 

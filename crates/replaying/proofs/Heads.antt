@@ -1,5 +1,5 @@
 -- A record's first four bytes as one number, and the stops among the records. Assumes nothing.
-use Prim.Native.Nat.{ℕ, _+_, _*_, _^_, _<_}
+use Prim.Native.Nat.{ℕ, _+_, _*_, _<_}
 use mathlib.Core.Path.{_≡_, refl, sym, _∙_}
 use mathlib.Core.Bool.{Bool, true, false, _&&_}
 use mathlib.Core.List.{List}
@@ -12,7 +12,7 @@ use Rattle.little.proofs.Laws.{value-eight}
 use Rattle.model.specs.Sizes.{recordLength, headerLength, mostRecords, areaLength}
 use Rattle.records.specs.declared.Record.{Record}
 use Rattle.records.specs.Records.{recordIn, recordAt}
-use Rattle.records.proofs.Laws.{value-within, record-read}
+use Rattle.records.proofs.Laws.{record-read}
 use Rattle.replaying.specs.Replaying.{headOf, isStop, noneWrong}
 
 -- the head says kind, flag and the two zero bytes
@@ -69,15 +69,10 @@ none-wrong-read area at i e whole room =
     rw (record-read area at i e room, ← value-eight (at + 12) area (omega arith), next)
     (both-zero (value (part (at + 12) 4 area)) (value (part (at + 16) 4 area)))
 
--- a record's bytes are below 256, its numbers below 2 ^ 32
+-- a record's first two bytes are below 256
 module _ (area : List ℕ) (i : ℕ) (whole : length area ≡ areaLength) (bytes : AreBytes area) (room : i < 128) where
   pub kind-byte : recordIn (recordAt area i) .kind < 256
   kind-byte = rw (record-read area (headerLength + recordLength * i) i refl room) (bytes _)
 
   pub flag-byte : recordIn (recordAt area i) .flag < 256
   flag-byte = rw (record-read area (headerLength + recordLength * i) i refl room) (bytes _)
-
-  pub label-word : recordIn (recordAt area i) .a < 2 ^ 32
-  label-word =
-      rw (record-read area (headerLength + recordLength * i) i refl room)
-      (value-within (headerLength + recordLength * i + 4) 4 area bytes (omega arith))

@@ -1,23 +1,21 @@
 -- Streams for lots: the numbers that a replay carries say all of their figures, and what entering a record then gives. Assumes nothing.
-use Prim.Native.Nat.{ℕ, _+_, _%_, _≤_, _<_}
-use mathlib.Core.Path.{_≡_, refl, sym, _∙_}
+use Prim.Native.Nat.{ℕ, _+_, _≤_, _<_}
+use mathlib.Core.Path.{_≡_, refl, _∙_}
 use mathlib.Core.Bool.{Bool, true, false, cond, not, _&&_}
-use mathlib.Core.List.{List, [], _∷_}
-use native.Mathlib.Nat.{add-zero, mod-eq-of-lt}
+use mathlib.Core.List.{List}
+use native.Mathlib.Nat.{add-zero}
 use native.Mathlib.Omega.{arith}
-use lib.Dec.{eqb, ltb}
-use borrow.Author.Tests.{eqb-true, eq-eqb, ne-eqb, lt-leb, lt-ltb, ltb-true, ltb-false}
+use lib.Dec.{eqb}
+use borrow.Author.Tests.{eqb-true, eq-eqb, lt-leb}
 use Rattle.little.specs.Little.{AreBytes}
 use Rattle.plans.specs.Continuous.{screening}
 use Rattle.plans.specs.Verdicts.{acceptedOf}
 use Rattle.plans.specs.declared.level.LevelState.{LevelState}
 use Rattle.model.specs.declared.Plan.{Plan}
-use Rattle.model.specs.declared.Entry.{Entry}
-use Rattle.model.specs.declared.Entry.the-variants.{Lot, Run, Block, Stop}
+use Rattle.model.specs.declared.Entry.the-variants.{Lot, Stop}
 use Rattle.model.specs.declared.Figures.{Figures}
 use Rattle.model.specs.Stations.{isContinuous, within}
 use Rattle.model.specs.Figuring.{
-  started,
   sampleAsked,
   verdictOn,
   acceptedBy,
@@ -27,11 +25,10 @@ use Rattle.model.specs.Figuring.{
   isLot,
   labelOf,
   stepped,
-  figuresOf,
 }
 use Rattle.model.specs.Calls.{firstOf, entryRefusals, isDiscontinued, isFull, sameLabel, sizeInRange, countsAgree, accepts}
 use Rattle.model.specs.Area.{entriesIn}
-use Rattle.model.proofs.Booleans.{both-true, never-both, within-of}
+use Rattle.model.proofs.Booleans.{both-true, within-of}
 use Rattle.model.proofs.Backward.{continuous-foreign}
 use Rattle.records.specs.declared.Record.{Record}
 use Rattle.replaying.specs.declared.Entered.{Entered}
@@ -46,65 +43,30 @@ use Rattle.replaying.specs.Replaying.{
   figuresTo,
   Ready,
 }
-use Rattle.replaying.specs.LotStreams.{noLabel, newestOf, lotFigures, mayFollow}
+use Rattle.replaying.specs.LotStreams.{lotFigures, mayFollow}
 use Rattle.replaying.proofs.Heads.{head-is}
 use Rattle.replaying.proofs.Answers.{formed, lot-formed, lot-of, stop-of}
 use Rattle.replaying.proofs.Stops.{stop-form, stop-stands}
 use Rattle.replaying.proofs.Turns.{ready-admissible, ready-within}
 
--- ---- the newest lot's label in one number
-
--- whether there is a label, and which
-is-labelled : (b : Bool) (n : ℕ) → n < noLabel → ltb (cond b n noLabel) noLabel ≡ b
-is-labelled true n h = lt-ltb n noLabel h
-is-labelled false n h = refl
-
-label-is : (b : Bool) (n : ℕ) → n < noLabel → (b ≡ false → n ≡ 0) → cond b n noLabel % noLabel ≡ n
-label-is true n h none = mod-eq-of-lt h
-label-is false n h none = sym (none refl)
-
--- where no lot stands, the label is 0
-unlabelled : (p : Plan) (es : List Entry) → figuresOf p es .labelled ≡ false → figuresOf p es .label ≡ 0
-unfolding figuresOf started stepped isLot
-unlabelled p [] e = refl
-unlabelled p (Lot label N n d D ∷ es) e = absurd (never-both true refl e)
-unlabelled p (Run h w ∷ es) e = unlabelled p es e
-unlabelled p (Block q w ∷ es) e = unlabelled p es e
-unlabelled p (Stop why days ∷ es) e = unlabelled p es e
-
--- the numbers taken from the figures stand for them
-numbers-of : (f : Figures) (K : ℕ) (L : LevelState) → f .credit .0 ≡ K → f .level ≡ L → f .continuous ≡ screening 0
-    → f .label < noLabel → (f .labelled ≡ false → f .label ≡ 0) → lotFigures K L (f .accepted) (newestOf f) ≡ f
-unfolding lotFigures newestOf
-numbers-of f K L credit level state word none =
-    rw (is-labelled (f .labelled) (f .label) word, label-is (f .labelled) (f .label) word none, ← credit, ← level, ← state)
+-- ---- the numbers that stand for the figures
 
 pub numbers-kept : (p : Plan) (area : List ℕ) (f : Figures) (i to : ℕ) → isContinuous p ≡ false → AreBytes area → Ready p area f i to
-    → (K : ℕ) (L : LevelState) → f .credit .0 ≡ K → f .level ≡ L → lotFigures K L (f .accepted) (newestOf f) ≡ f
-unfolding figuresTo
+    → (K : ℕ) (L : LevelState) → f .credit .0 ≡ K → f .level ≡ L → lotFigures K L (f .accepted) (f .newest) ≡ f
+unfolding figuresTo lotFigures
 numbers-kept p area f i to lots bytes ready K L credit level =
-    numbers-of f K L credit level
-    (rw (ready .brought) (continuous-foreign p (entriesIn p (recordsIn area) i) (ready-admissible p area f i to ready bytes) lots))
-    (ready-within p area f i to ready bytes .labels)
-    (rw (ready .brought) (unlabelled p (entriesIn p (recordsIn area) i)))
+    let state : f .continuous ≡ screening 0
+    = rw (ready .brought) (continuous-foreign p (entriesIn p (recordsIn area) i) (ready-admissible p area f i to ready bytes) lots) in
+    rw (← credit, ← level, ← state)
 
 module _ (K : ℕ) (L : LevelState) (A newest : ℕ) where
-  -- a label is the newest lot's where it is the carried number
-  pub one-comparison : (label : ℕ) → label < noLabel → sameLabel (lotFigures K L A newest) label ≡ eqb label newest
-  unfolding sameLabel lotFigures
-  one-comparison label h = go (ltb newest noLabel) refl
-    where
-      go : (b : Bool) → ltb newest noLabel ≡ b → b && eqb label (newest % noLabel) ≡ eqb label newest
-      go true e = rw (mod-eq-of-lt {n = newest} {m = noLabel} (ltb-true newest noLabel e))
-      go false e = sym (ne-eqb label newest (λ same. omega (arith, ltb-false newest noLabel e)))
-
   -- the numbers after a lot, and after a stop
-  pub lot-numbers : (p : Plan) (label N n d D : ℕ) → label < noLabel
+  pub lot-numbers : (p : Plan) (label N n d D : ℕ)
       → stepped p (Lot label N n d D) (lotFigures K L A newest)
       ≡ lotFigures (creditStep p (Lot label N n d D) K) (levelStep p (Lot label N n d D) L)
       (A + acceptedOf (verdictOn p (lotFigures K L A newest) d) N D) label
   unfolding stepped continuousStep acceptedBy isLot labelOf lotFigures
-  lot-numbers p label N n d D word = rw (lt-ltb label noLabel word, mod-eq-of-lt {n = label} {m = noLabel} word)
+  lot-numbers p label N n d D = refl
 
   pub stop-numbers : (p : Plan) (why days : ℕ) → isContinuous p ≡ false
       → stepped p (Stop why days) (lotFigures K L A newest) ≡ lotFigures K (levelStep p (Stop why days) L) A newest

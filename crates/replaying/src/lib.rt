@@ -33,9 +33,6 @@ pub const PAUSE: u32 = 260;
 
 pub const CHANGE: u32 = 516;
 
-// In place of the newest lot's label where no lot stands: 2^32, as large as no label is.
-pub const NO_LABEL: u64 = 4294967296;
-
 // A record's first four bytes as one number. It is made where the bytes are read, so that they are loaded and compared at once.
 pub fn head_of(read: Record) -> u32
     ensures { λ r. ⌜ (r ≡ headOf read) × (read .kind < 256) × (read .flag < 256) ⌝ }

@@ -6,6 +6,7 @@ ghost use lib.Dec.{eqb, leb};
 ghost use Rattle.plans.specs.Limits.{largestClearance, largestInterval};
 ghost use Rattle.model.specs.Figuring.{started as startedFigures, withLevel};
 use model::Figures;
+use model::NO_LABEL;
 use model::Plan;
 use plans::continuous::Continuous;
 use plans::credit::Credit;
@@ -95,7 +96,6 @@ fn with_level(level: LevelState) -> Figures
         level,
         continuous: Continuous::screen(0),
         accepted: 0,
-        labelled: false,
-        label: 0,
+        newest: NO_LABEL,
     }
 }

@@ -212,10 +212,7 @@ fn is_discontinued(figures: Figures) -> bool
 fn is_same_label(figures: Figures, label: u32) -> bool
     ensures { λ r. ⌜ r ≡ sameLabel figures label ⌝ }
 {
-    if figures.labelled {
-        return label == figures.label;
-    }
-    false
+    label as u64 == figures.newest
 }
 
 fn is_size_out(plan: Plan, size: u32) -> bool

@@ -8,12 +8,9 @@ use Rattle.replay_credit.proofs.figures_of.Tie as tie
 screen-requires : tie.Need-screen-requires
 screen-requires c κs = search needs
 
-cast-t7 : tie.Need-cast-t7
-cast-t7 c = search needs
-
 returns : tie.Need-returns
 unfolding figuresIn lotFigures noLevel
-returns c = rw (c .before .before .screen .ensures)
+returns c = rw (c .screen .ensures)
 
 pub figures-of-spec : {M : Type 1} → statement M
-figures-of-spec = tie.close (tie.spec screen-requires cast-t7 returns)
+figures-of-spec = tie.close (tie.spec screen-requires returns)
