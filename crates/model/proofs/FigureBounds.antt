@@ -1,10 +1,10 @@
 -- How far the standing entries can take a stream's figures: what keeps the figures in their bytes. Assumes nothing.
-use Prim.Native.Nat.{ℕ, suc, _+_, _*_, _-_, _^_, _≤_, _<_}
+use Prim.Native.Nat.{ℕ, suc, _+_, _*_, _-_, _≤_}
 use mathlib.Core.Path.{_≡_, refl}
 use mathlib.Core.Bool.{true, cond, _&&_, _||_}
 use mathlib.Core.List.{List, [], _∷_}
 use native.Mathlib.Omega.{arith}
-use lib.Dec.{T, eqb, ltb, ltb→lt}
+use lib.Dec.{T, eqb, ltb}
 use lib.ListN.{length}
 use Rattle.plans.specs.Limits.{largestLot, largestClearance, largestInterval}
 use Rattle.plans.specs.Verdicts.{acceptedOf, lotAccepted, lotHeard}
@@ -21,11 +21,11 @@ use Rattle.model.specs.declared.Plan.{Plan}
 use Rattle.model.specs.declared.Entry.{Entry}
 use Rattle.model.specs.declared.Entry.the-variants.{Lot, Run, Block, Stop}
 use Rattle.model.specs.declared.Figures.{Figures}
-use Rattle.model.specs.Stations.{isCredit, isLevel, isContinuous, hasOption, validPlan, allWords, entryArguments}
+use Rattle.model.specs.Stations.{isCredit, isLevel, isContinuous, hasOption, validPlan}
 use Rattle.model.specs.Figuring.{noLevel, started, verdictOn, acceptedBy, creditStep, levelStep, continuousStep, isLot, labelOf, stepped, figuresOf}
 use Rattle.model.specs.FigureBounds.{FiguresWithin}
 use Rattle.model.specs.Calls.{firstOf, entryRefusals, sizeInRange, admissible}
-use Rattle.model.proofs.Booleans.{both-of, within-of}
+use Rattle.model.proofs.Booleans.{within-of}
 use Rattle.model.proofs.Allowed.{AllowedLot, AllowedRun, AllowedBlock, allowed-lot, allowed-run, allowed-block, newest-of, continuous-plan}
 
 -- ---- one lot, run, block or stop
@@ -93,10 +93,10 @@ stop-within p why days s h =
     h
 
 module _ (p : Plan) (f : Figures) (n : ℕ) (known : FiguresWithin n f) where
-  lot-entered : (label N m d D : ℕ) → AllowedLot p f n label N m d D → label < 2 ^ 32
+  lot-entered : (label N m d D : ℕ) → AllowedLot p f n label N m d D
       → FiguresWithin (suc n) (stepped p (Lot label N m d D) f)
   unfolding stepped creditStep levelStep continuousStep acceptedBy isLot labelOf
-  lot-entered label N m d D allowed word =
+  lot-entered label N m d D allowed =
       let size : N ≤ largestLot = lot-size-range p N (allowed .size) .1 in
       record {
         credits =
@@ -108,14 +108,13 @@ module _ (p : Plan) (f : Figures) (n : ℕ) (known : FiguresWithin n f) where
         phases = known .phases;
         tails = known .tails;
         acceptedIn = omega (arith, accepted-of-at-most (verdictOn p f d) N D);
-        labels = omega arith;
       }
 
-  -- an entry that is no lot leaves the credit and the label
-  no-lot-entered : (after : Figures) → after .credit .0 ≡ f .credit .0 → after .newest ≡ f .newest
+  -- an entry that is no lot leaves the credit
+  no-lot-entered : (after : Figures) → after .credit .0 ≡ f .credit .0
       → LevelWithin (suc n) (after .level) → ContinuousWithin (after .continuous) → after .accepted ≤ f .accepted + largestLot
       → FiguresWithin (suc n) after
-  no-lot-entered after credit newest level continuous accepted =
+  no-lot-entered after credit level continuous accepted =
       record {
         credits = omega arith;
         levels = level;
@@ -123,14 +122,13 @@ module _ (p : Plan) (f : Figures) (n : ℕ) (known : FiguresWithin n f) where
         phases = continuous .phases;
         tails = continuous .tails;
         acceptedIn = omega arith;
-        labels = omega arith;
       }
 
   run-entered : T (validPlan p) → (h w : ℕ) → AllowedRun p f n h w → FiguresWithin (suc n) (stepped p (Run h w) f)
   unfolding stepped creditStep levelStep continuousStep acceptedBy isLot
   run-entered valid h w allowed =
       let plan = continuous-plan p valid (allowed .continuous) in
-      no-lot-entered (stepped p (Run h w) f) refl refl (omega arith)
+      no-lot-entered (stepped p (Run h w) f) refl (omega arith)
       (run-within (p .a) h w (f .continuous) (omega arith))
       (omega arith)
 
@@ -138,28 +136,26 @@ module _ (p : Plan) (f : Figures) (n : ℕ) (known : FiguresWithin n f) where
   unfolding stepped creditStep levelStep continuousStep acceptedBy isLot
   block-entered valid q w allowed =
       let plan = continuous-plan p valid (allowed .continuous) in
-      no-lot-entered (stepped p (Block q w) f) refl refl (omega arith)
+      no-lot-entered (stepped p (Block q w) f) refl (omega arith)
       (block-within (p .b) q w (f .continuous) (plan .intervalMost))
       (omega (arith, block-accepts (p .b) q w (f .continuous) (allowed .last)))
 
   stop-entered : (why days : ℕ) → FiguresWithin (suc n) (stepped p (Stop why days) f)
   unfolding stepped creditStep levelStep continuousStep acceptedBy isLot
   stop-entered why days =
-      no-lot-entered (stepped p (Stop why days) f) refl refl
+      no-lot-entered (stepped p (Stop why days) f) refl
       (level-stop-within p n why days (f .level) (known .levels))
       (stop-within p why days (f .continuous) (omega arith))
       (omega arith)
 
--- an accepted entry with 32-bit arguments
+-- an accepted entry
 pub stepped-within : (p : Plan) (e : Entry) (f : Figures) (n : ℕ) → T (validPlan p) → firstOf (entryRefusals p f n e) ≡ 0
-    → T (allWords (entryArguments e)) → FiguresWithin n f → FiguresWithin (suc n) (stepped p e f)
-unfolding allWords entryArguments
-stepped-within p (Lot label N m d D) f n valid taken words known =
+    → FiguresWithin n f → FiguresWithin (suc n) (stepped p e f)
+stepped-within p (Lot label N m d D) f n valid taken known =
     lot-entered p f n known label N m d D (allowed-lot p f n label N m d D taken)
-    (ltb→lt label (2 ^ 32) (both-of (ltb label (2 ^ 32)) _ words .0))
-stepped-within p (Run h w) f n valid taken words known = run-entered p f n known valid h w (allowed-run p f n h w taken)
-stepped-within p (Block q w) f n valid taken words known = block-entered p f n known valid q w (allowed-block p f n q w taken)
-stepped-within p (Stop why days) f n valid taken words known = stop-entered p f n known why days
+stepped-within p (Run h w) f n valid taken known = run-entered p f n known valid h w (allowed-run p f n h w taken)
+stepped-within p (Block q w) f n valid taken known = block-entered p f n known valid q w (allowed-block p f n q w taken)
+stepped-within p (Stop why days) f n valid taken known = stop-entered p f n known why days
 
 -- ---- the standing entries
 
@@ -173,7 +169,6 @@ started-within p =
       phases = omega arith;
       tails = omega arith;
       acceptedIn = omega arith;
-      labels = omega arith;
     }
 
 pub figures-within : (p : Plan) (es : List Entry) → T (validPlan p) → T (admissible p es) → FiguresWithin (length es) (figuresOf p es)
@@ -181,4 +176,4 @@ unfolding figuresOf
 figures-within p [] valid ok = started-within p
 figures-within p (e ∷ es) valid ok =
     let newest = newest-of p e es ok in
-    stepped-within p e (figuresOf p es) (length es) valid (newest .accepted) (newest .words) (figures-within p es valid (newest .others))
+    stepped-within p e (figuresOf p es) (length es) valid (newest .accepted) (figures-within p es valid (newest .others))

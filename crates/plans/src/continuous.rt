@@ -1,8 +1,9 @@
-// Continuous sampling: paper 01, "Continuous". What a stop does (`afterStop` in specs/) has its code in the replay, `replay_continuous`.
+// Continuous sampling: paper 01, "Continuous".
 ghost use mathlib.Core.Path.{_≡_};
 ghost use Prim.Native.Nat.{_+_, _≤_};
-ghost use Rattle.plans.specs.Continuous.{screening, sampling, afterRun, afterBlock};
+ghost use Rattle.plans.specs.Continuous.{screening, sampling, afterRun, afterBlock, afterStop};
 ghost use Rattle.plans.specs.Limits.{largestClearance, largestInterval};
+use crate::stops;
 
 pub const SCREENING: u8 = 0;
 
@@ -80,5 +81,20 @@ impl Continuous {
             accepted: interval,
             hear_back: 0,
         }
+    }
+
+    // Meets a stop.
+    pub fn stop(self, why: u32, days: u32) -> Self
+        ensures { λ r. ⌜ r ≡ afterStop why days self ⌝ }
+    {
+        if why == stops::SET_UP_CHANGED {
+            return Self::screen(0);
+        }
+        if self.phase == SAMPLING {
+            if stops::SHORT_STOP < days {
+                return Self::screen(0);
+            }
+        }
+        self
     }
 }
