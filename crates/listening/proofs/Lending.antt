@@ -1,8 +1,11 @@
--- A call on the store, by the part that is lent: wrong length, wrong stream, lent and come back. Assumes nothing.
+-- A call on the store: refused before an area is looked at, or by the part that is lent, and come back. Assumes nothing.
 use Prim.Native.Nat.{ℕ, _+_, _-_, _≤_, _<_}
-use mathlib.Core.Path.{_≡_, sym, ap, _∙_}
+use mathlib.Core.Path.{_≡_, refl, sym, ap, _∙_}
+use mathlib.Core.Bool.{Bool, true, false, cond, not}
 use mathlib.Core.List.{List, _++_}
 use native.Mathlib.Omega.{arith}
+use lib.Dec.{eqb, leb}
+use borrow.Author.Tests.{eqb-true, leb-false}
 use lib.ListN.{length, take, drop, take-append-drop}
 use lib.Seq.{drop-drop}
 use Rattle.little.specs.Little.{part, written}
@@ -14,33 +17,54 @@ use Rattle.model.specs.Area.{AreaOutcome, onArea}
 use Rattle.model.specs.Store.{StoreOutcome, areaAt, onStream, onStore}
 use Rattle.model.specs.Claims.{on}
 use Rattle.model.proofs.OnArea.{length-on-area}
-use Rattle.model.proofs.OnStore.{wrong-length, wrong-stream, on-stream, length-area-at}
+use Rattle.model.proofs.OnStore.{on-stream, length-area-at}
+use Rattle.listening.specs.Handed.{storeRefusal}
 
 -- an answer, and the store after it
 abbrev pub keeps : Answer → List ℕ → StoreOutcome
 keeps r store = record { answer = r; store = store }
 
-module _ (store : List ℕ) (stream : ℕ) (c : Call) {r : Answer} where
-  pub by-length : (length store ≡ storeLength → ⊥) → r ≡ refused 1 → keeps r store ≡ onStore store (on stream c)
-  by-length other given = ap (λ (a : Answer). keeps a store) given ∙ sym (wrong-length store (on stream c) other)
+-- where neither refusal applies, the store is whole and the stream is one of its own
+pub lent-from : (store : List ℕ) (stream : ℕ) {n : ℕ} → n ≡ storeRefusal (length store) stream → n ≡ 0
+    → (length store ≡ storeLength) × (stream < streams)
+unfolding storeRefusal
+lent-from store stream {n} same none = go (eqb (length store) storeLength) (leb streams stream) refl refl (sym none ∙ same)
+  where
+    go : (a b : Bool) → eqb (length store) storeLength ≡ a → leb streams stream ≡ b → _≡_ {A = ℕ} 0 (cond (not a) 1 (cond b 2 0))
+        → (length store ≡ storeLength) × (stream < streams)
+    go true true e g z = omega arith
+    go true false e g z = (eqb-true (length store) storeLength e, leb-false streams stream g)
+    go false b e g z = omega arith
 
-  pub by-number : length store ≡ storeLength → streams ≤ stream → r ≡ refused 2 → keeps r store ≡ onStore store (on stream c)
-  by-number sized above given = ap (λ (a : Answer). keeps a store) given ∙ sym (wrong-stream store (on stream c) sized above)
+module _ (store : List ℕ) (stream : ℕ) (c : Call) {r : Answer} where
+  pub by-refusal : {n : ℕ} → n ≡ storeRefusal (length store) stream → (n ≡ 0 → ⊥) → r ≡ refused n
+      → keeps r store ≡ onStore store (on stream c)
+  unfolding storeRefusal onStore
+  by-refusal {n} same applies given =
+      ap (λ (a : Answer). keeps a store) given ∙ go (not (eqb (length store) storeLength)) (leb streams stream) same
+    where
+      go : (a b : Bool) → n ≡ cond a 1 (cond b 2 0)
+          → keeps (refused n) store
+          ≡ cond a (keeps (refused 1) store) (cond b (keeps (refused 2) store) (onStream store (on stream c)))
+      go true b e = ap (λ (m : ℕ). keeps (refused m) store) e
+      go false true e = ap (λ (m : ℕ). keeps (refused m) store) e
+      go false false e = absurd (applies e)
 
   -- the part that is lent, from the start of the stream's area to its end, as code takes it
-  module _ {start : ℕ} (sized : length store ≡ storeLength) (known : stream < streams) (starts : start ≡ startOf stream) where
+  module _ {n start : ℕ} (same : n ≡ storeRefusal (length store) stream) (none : n ≡ 0) (starts : start ≡ startOf stream) where
     pub by-area : {after : List ℕ} → _≡_ {A = AreaOutcome} (record { answer = r; area = after }) (onArea (take (start + areaLength - start) (drop start store)) c)
         → keeps r (take start store ++ (after ++ drop (start + areaLength - start) (drop start store))) ≡ onStore store (on stream c)
     unfolding onStream areaAt part written
     by-area made =
+        let lent = lent-from store stream same none in
         let wide : start + areaLength - start ≡ areaLength = omega arith in
         let area : List ℕ = take areaLength (drop (startOf stream) store) in
         let on-lent = rw (wide, starts) at made in
         let answer = ap (λ (o : AreaOutcome). o .answer) on-lent in
         let written-area = ap (λ (o : AreaOutcome). o .area) on-lent in
-        let long : length (onArea area c .area) ≡ areaLength = length-on-area area c (length-area-at store stream sized known) in
+        let long : length (onArea area c .area) ≡ areaLength = length-on-area area c (length-area-at store stream (lent .0) (lent .1)) in
         rw (wide, starts, answer, written-area)
-        (sym (on-stream store (on stream c) sized known ∙ rw (long, ← drop-drop areaLength (startOf stream) store)))
+        (sym (on-stream store (on stream c) (lent .0) (lent .1) ∙ rw (long, ← drop-drop areaLength (startOf stream) store)))
 
     -- nothing is written where the part is only lent to be read
     pub by-look : _≡_ {A = AreaOutcome} (record { answer = r; area = take (start + areaLength - start) (drop start store) })

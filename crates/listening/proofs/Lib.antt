@@ -1,6 +1,5 @@
 -- What the calls make of an area: laws for each answer of the code.
 pub mod Rewriting
-pub mod Entering
 pub mod OnReading
 pub mod Outcomes
 pub mod Lending

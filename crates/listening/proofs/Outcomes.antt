@@ -18,7 +18,7 @@ use Rattle.model.specs.declared.Figures.{Figures}
 use Rattle.model.specs.declared.Answer.{Answer}
 use Rattle.model.specs.Sizes.{recordLength, mostRecords}
 use Rattle.records.specs.declared.Record.{Record}
-use Rattle.records.specs.Records.{recordIn, recordAt, figuresStart}
+use Rattle.records.specs.Records.{recordIn, recordAt, figuresStart, LevelFits}
 use Rattle.model.specs.Stations.{Station, unopened, opened, validPlan, isContinuous}
 use Rattle.model.specs.Figuring.{sampleAsked, stepped, started, figuresOf}
 use Rattle.model.specs.Calls.{
@@ -52,7 +52,7 @@ use Rattle.model.specs.Area.{
   onArea,
 }
 use Rattle.model.proofs.Allowed.{room-for, passed, allowed-run, allowed-block, allowed-stop}
-use Rattle.model.proofs.FigureBounds.{lot-size-range}
+use Rattle.model.proofs.FigureBounds.{lot-size-range, stepped-within}
 use Rattle.model.proofs.AreaReading.{area-of-reading, part-record, records-in}
 use Rattle.model.proofs.Keeping.{accepted-station, accepted-answer, valid-opens}
 use Rattle.model.proofs.OnArea.{on-station, on-unsound, refused-station}
@@ -60,7 +60,7 @@ use Rattle.replay.specs.declared.Standing.{Standing}
 use Rattle.replay.specs.Standing.{standingOf}
 use Rattle.listening.specs.Written.{rewritten, flagOf, FlagFits}
 use Rattle.listening.proofs.Rewriting.{entered-area, taken-area, opened-area}
-use Rattle.listening.proofs.OnReading.{OpenedAt, read-unsound, read-unopened, read-area, read-count}
+use Rattle.listening.proofs.OnReading.{OpenedAt, read-unsound, read-unopened, read-plan, read-area, read-figures, read-count, level-fits}
 
 -- an answer, and the area after it
 abbrev pub leaves : Answer → List ℕ → AreaOutcome
@@ -133,6 +133,14 @@ module _ {area : List ℕ} {s : Standing} {es : List Entry} (at : OpenedAt 0 are
       ∙ rw (stepped-on, at .brought, at .counted, read-area at)
       (entered-area (s .plan) e es
       (room-for (s .plan) (figuresOf (s .plan) es) (length es) e (rw (at .brought, at .counted) at (sym same ∙ none)))))
+
+  -- the level figures after an accepted entry are bytes
+  pub after-fits : (e : Entry) → firstOf (entryRefusals (s .plan) (s .figures) (s .count) e) ≡ 0 → {g : Figures}
+      → g ≡ stepped (s .plan) e (s .figures) → LevelFits (g .level)
+  after-fits e none given =
+      rw given
+      (level-fits (suc (s .count)) _ (omega (arith, room-for (s .plan) (s .figures) (s .count) e none))
+      (stepped-within (s .plan) e (s .figures) (s .count) (read-plan at) none (read-figures at)))
 
   -- Ask
   pub ask-refused : (size : ℕ) {n : ℕ} {r : Answer} → n ≡ firstOf (askRefusals (s .plan) (s .figures) size) → (n ≡ 0 → ⊥) → r ≡ refused n

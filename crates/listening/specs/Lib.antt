@@ -1,3 +1,4 @@
 -- What the contracts of this crate cite beside the definitions of model.
 pub mod Written
 pub mod Lists
+pub mod Handed

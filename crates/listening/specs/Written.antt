@@ -1,7 +1,5 @@
 -- An area with one record, the count and the figures written. Assumes nothing.
 use Prim.Native.Nat.{ℕ, _+_, _*_, _<_}
-use mathlib.Core.Path.{_≡_}
-use mathlib.Core.Bool.{true}
 use mathlib.Core.List.{List}
 use Rattle.little.specs.Little.{bytes, written}
 use Rattle.model.specs.declared.Plan.{Plan}
@@ -9,11 +7,8 @@ use Rattle.model.specs.declared.Entry.{Entry}
 use Rattle.model.specs.declared.Entry.the-variants.{Lot, Run, Block, Stop}
 use Rattle.model.specs.declared.Figures.{Figures}
 use Rattle.model.specs.Sizes.{recordLength, headerLength}
-use Rattle.model.specs.Calls.{firstOf, entryRefusals}
-use Rattle.model.specs.Area.{figureBytes, reading}
+use Rattle.model.specs.Area.{figureBytes}
 use Rattle.records.specs.Records.{countStart, figuresStart}
-use Rattle.replay.specs.declared.Standing.{Standing}
-use Rattle.replay.specs.Standing.{standingOf}
 
 -- the i-th record, then the count, then the figures
 unfoldable pub rewritten : ℕ → List ℕ → ℕ → Figures → List ℕ → List ℕ
@@ -34,9 +29,3 @@ FlagFits e = flagOf e < 256
 -- Open's arguments as a plan
 abbrev pub planOf : ℕ → ℕ → ℕ → ℕ → Plan
 planOf kind option a b = record { kind = kind; option = option; a = a; b = b }
-
--- an area as it was read, in which the stream is opened and takes the entry
-pub record Takes (area : List ℕ) (s : Standing) (e : Entry) : Type 0 where
-  pub said : s ≡ standingOf 0 (reading area)
-  pub isOpened : s .opened ≡ true
-  pub accepted : firstOf (entryRefusals (s .plan) (s .figures) (s .count) e) ≡ 0

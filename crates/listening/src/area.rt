@@ -2,42 +2,24 @@
 ghost use mathlib.Core.Path.{_≡_};
 ghost use Prim.Native.Nat.{_+_, _*_, _<_, _≤_};
 ghost use lib.ListN.{length};
-ghost use lib.Dec.{T};
 ghost use Rattle.little.specs.Little.{bytes, written};
 ghost use Rattle.model.specs.declared.Call.the-variants.{Open, Enter, Back, Ask, Read};
 ghost use Rattle.model.specs.Sizes.{areaLength, recordLength, headerLength, mostRecords};
-ghost use Rattle.model.specs.Stations.{entryArguments, allWords};
-ghost use Rattle.model.specs.Figuring.{stepped};
 ghost use Rattle.model.specs.Area.{zeros, figureBytes, recordOf, onArea};
 ghost use Rattle.records.specs.Records.{countStart, figuresStart, LevelFits};
-ghost use Rattle.listening.specs.Written.{rewritten, FlagFits, Takes};
+ghost use Rattle.listening.specs.Written.{rewritten, FlagFits};
 use model::Answer;
-use model::Call;
 use model::Entry;
 use model::Figures;
 use model::Plan;
-use replay::Standing;
 use rules::answering;
 use rules::asking;
 use rules::plan;
 use rules::refusing;
-
-// Makes a call on an area.
-pub fn make(area: &mut [u8], call: Call) -> Answer
-    requires { ⌜ length (now area) ≡ areaLength ⌝ }
-    ensures { λ r. ⌜ record { answer = r; area = now (area .exit) } ≡ onArea (now (area .entry)) call ⌝ }
-{
-    match call {
-        Call::Open(plan) => open(area, plan),
-        Call::Enter(entry) => enter(area, entry),
-        Call::Back => take_back(area),
-        Call::Ask(size) => ask(area, size),
-        Call::Read => read(area),
-    }
-}
+use rules::stepping;
 
 // Opens the stream.
-fn open(area: &mut [u8], plan: Plan) -> Answer
+pub fn open(area: &mut [u8], plan: Plan) -> Answer
     requires { ⌜ length (now area) ≡ areaLength ⌝ }
     ensures { λ r. ⌜ record { answer = r; area = now (area .exit) } ≡ onArea (now (area .entry)) (Open plan) ⌝ }
 {
@@ -57,7 +39,7 @@ fn open(area: &mut [u8], plan: Plan) -> Answer
 }
 
 // Enters a lot, run, block or stop.
-fn enter(area: &mut [u8], entry: Entry) -> Answer
+pub fn enter(area: &mut [u8], entry: Entry) -> Answer
     requires { ⌜ length (now area) ≡ areaLength ⌝ }
     ensures { λ r. ⌜ record { answer = r; area = now (area .exit) } ≡ onArea (now (area .entry)) (Enter entry) ⌝ }
 {
@@ -75,12 +57,13 @@ fn enter(area: &mut [u8], entry: Entry) -> Answer
     if refusal != 0 {
         return answering::refused(refusal);
     }
-    let after = put_entry(area, standing, entry);
+    let after = stepping::entry(plan, figures, count, entry);
+    put_entry(area, count, after, entry);
     answering::entry(plan, figures, after, count, entry)
 }
 
 // Takes the newest entry back. The reading sets it apart, and hands over the figures before it: they can't be had from those after.
-fn take_back(area: &mut [u8]) -> Answer
+pub fn take_back(area: &mut [u8]) -> Answer
     requires { ⌜ length (now area) ≡ areaLength ⌝ }
     ensures { λ r. ⌜ record { answer = r; area = now (area .exit) } ≡ onArea (now (area .entry)) Back ⌝ }
 {
@@ -142,17 +125,13 @@ pub fn read(area: &[u8]) -> Answer
     )
 }
 
-// Writes an accepted entry as the next record, replays it as any other, and writes the figures after it.
-fn put_entry(area: &mut [u8], standing: Standing, entry: Entry) -> Figures
-    requires { ⌜ (length (now area) ≡ areaLength) × Takes (now area) standing entry ⌝ }
-    ensures { λ r. ⌜ (r ≡ stepped (standing .plan) entry (standing .figures)) × (now (area .exit) ≡ rewritten (standing .count) (recordOf entry) (standing .count + 1) r (now (area .entry))) ⌝ }
+// Writes an entry as the next record, and the figures after it.
+fn put_entry(area: &mut [u8], count: usize, figures: Figures, entry: Entry)
+    requires { ⌜ (length (now area) ≡ areaLength) × (count < mostRecords) × FlagFits entry × LevelFits (figures .level) ⌝ }
+    ensures { λ _. ⌜ now (area .exit) ≡ rewritten count (recordOf entry) (count + 1) figures (now (area .entry)) ⌝ }
 {
-    let count = standing.count;
     put_record_of(area, count, entry);
-    let entered = replay::replay(area, standing.plan, standing.figures, count, count + 1);
-    let after = entered.figures;
-    put_standing(area, count + 1, after);
-    after
+    put_standing(area, count + 1, figures);
 }
 
 // Clears the last record, and writes the figures before it.
@@ -173,11 +152,10 @@ fn put_standing(area: &mut [u8], count: usize, figures: Figures)
     records::put_figures(area, figures);
 }
 
-// The record writer: an entry's record in the part of the store that is lent. Its arguments are 32-bit numbers, so that it is read
-// back.
+// The record writer: an entry's record in the part of the store that is lent.
 fn put_record_of(area: &mut [u8], i: usize, entry: Entry)
     requires { ⌜ (length (now area) ≡ areaLength) × (i < mostRecords) × FlagFits entry ⌝ }
-    ensures { λ _. ⌜ (now (area .exit) ≡ written (headerLength + recordLength * i) (recordOf entry) (now (area .entry))) × T (allWords (entryArguments entry)) ⌝ }
+    ensures { λ _. ⌜ now (area .exit) ≡ written (headerLength + recordLength * i) (recordOf entry) (now (area .entry)) ⌝ }
 {
     match entry {
         Entry::Lot {

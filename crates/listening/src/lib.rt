@@ -2,6 +2,7 @@
 // anything of its caller: bad input gets a refusal number, and the store stays as it was.
 mod area;
 pub mod lists;
+mod words;
 
 ghost use mathlib.Core.Path.{_≡_};
 ghost use Rattle.model.specs.declared.Entry.the-variants.{Lot, Run, Block, Stop};
@@ -11,6 +12,7 @@ ghost use Rattle.model.specs.Sizes.{streams, startOf};
 ghost use Rattle.model.specs.Store.{onStore};
 ghost use Rattle.model.specs.Claims.{on};
 ghost use Rattle.listening.specs.Written.{planOf};
+ghost use Rattle.listening.specs.Handed.{storeRefusal, answerIn};
 use model::Answer;
 use model::Call;
 use model::Entry;
@@ -19,12 +21,19 @@ use model::sizes;
 use model::sizes::STORE_LENGTH;
 use model::sizes::STREAMS;
 use rules::answering;
+use words::Words;
 
 // Opens a stream with a plan.
 pub fn open(store: &mut [u8], stream: u32, kind: u32, option: u32, a: u32, b: u32) -> Answer
     ensures { λ r. ⌜ record { answer = r; store = now (store .exit) } ≡ onStore (now (store .entry)) (on stream (Open (planOf kind option a b))) ⌝ }
 {
-    make(store, stream, Call::Open(Plan { kind, option, a, b }))
+    let refusal = refusal_of(store.len(), stream);
+    if refusal != 0 {
+        return answering::refused(refusal);
+    }
+    let start = start_of(stream);
+    let end = start + sizes::AREA_LENGTH;
+    area::open(&mut store[start..end], Plan { kind, option, a, b })
 }
 
 // Enters a lot.
@@ -39,56 +48,60 @@ pub fn lot(
 ) -> Answer
     ensures { λ r. ⌜ record { answer = r; store = now (store .exit) } ≡ onStore (now (store .entry)) (on stream (Enter (Lot label size sample wrong «wrong_in_all»))) ⌝ }
 {
-    make(
+    words::unpacked(enter_packed(
         store,
         stream,
-        Call::Enter(Entry::Lot {
+        Entry::Lot {
             label,
             size,
             sample,
             wrong,
             wrong_in_all,
-        }),
-    )
+        },
+    ))
 }
 
 // Enters a run.
 pub fn run(store: &mut [u8], stream: u32, right: u32, wrong: u32) -> Answer
     ensures { λ r. ⌜ record { answer = r; store = now (store .exit) } ≡ onStore (now (store .entry)) (on stream (Enter (Run right wrong))) ⌝ }
 {
-    make(store, stream, Call::Enter(Entry::Run { right, wrong }))
+    words::unpacked(enter_packed(store, stream, Entry::Run { right, wrong }))
 }
 
 // Enters a block.
 pub fn block(store: &mut [u8], stream: u32, heard: u32, wrong: u32) -> Answer
     ensures { λ r. ⌜ record { answer = r; store = now (store .exit) } ≡ onStore (now (store .entry)) (on stream (Enter (Block heard wrong))) ⌝ }
 {
-    make(store, stream, Call::Enter(Entry::Block { heard, wrong }))
+    words::unpacked(enter_packed(store, stream, Entry::Block { heard, wrong }))
 }
 
 // Enters a stop.
 pub fn stop(store: &mut [u8], stream: u32, why: u32, days: u32) -> Answer
     ensures { λ r. ⌜ record { answer = r; store = now (store .exit) } ≡ onStore (now (store .entry)) (on stream (Enter (Stop why days))) ⌝ }
 {
-    make(store, stream, Call::Enter(Entry::Stop { why, days }))
+    words::unpacked(enter_packed(store, stream, Entry::Stop { why, days }))
 }
 
 // Takes the newest entry back.
 pub fn back(store: &mut [u8], stream: u32) -> Answer
     ensures { λ r. ⌜ record { answer = r; store = now (store .exit) } ≡ onStore (now (store .entry)) (on stream Back) ⌝ }
 {
-    make(store, stream, Call::Back)
+    let refusal = refusal_of(store.len(), stream);
+    if refusal != 0 {
+        return answering::refused(refusal);
+    }
+    let start = start_of(stream);
+    let end = start + sizes::AREA_LENGTH;
+    area::take_back(&mut store[start..end])
 }
 
 // The sample that a lot would ask for.
 pub fn ask(store: &[u8], stream: u32, size: u32) -> Answer
     ensures { λ r. ⌜ record { answer = r; store = now (store .entry) } ≡ onStore (now (store .entry)) (on stream (Ask size)) ⌝ }
 {
-    if store.len() != STORE_LENGTH {
-        return answering::refused(1);
-    }
-    if STREAMS <= stream {
-        return answering::refused(2);
+    let refusal = refusal_of(store.len(), stream);
+    if refusal != 0 {
+        return answering::refused(refusal);
     }
     let start = start_of(stream);
     let end = start + sizes::AREA_LENGTH;
@@ -99,30 +112,59 @@ pub fn ask(store: &[u8], stream: u32, size: u32) -> Answer
 pub fn read(store: &[u8], stream: u32) -> Answer
     ensures { λ r. ⌜ record { answer = r; store = now (store .entry) } ≡ onStore (now (store .entry)) (on stream Read) ⌝ }
 {
-    if store.len() != STORE_LENGTH {
-        return answering::refused(1);
-    }
-    if STREAMS <= stream {
-        return answering::refused(2);
+    let refusal = refusal_of(store.len(), stream);
+    if refusal != 0 {
+        return answering::refused(refusal);
     }
     let start = start_of(stream);
     let end = start + sizes::AREA_LENGTH;
     area::read(&store[start..end])
 }
 
-// Makes any of the calls: the part of the store that starts at the stream's offset is lent on.
+// Makes any of the calls.
 pub fn make(store: &mut [u8], stream: u32, call: Call) -> Answer
     ensures { λ r. ⌜ record { answer = r; store = now (store .exit) } ≡ onStore (now (store .entry)) (on stream call) ⌝ }
 {
-    if store.len() != STORE_LENGTH {
-        return answering::refused(1);
+    match call {
+        Call::Open(plan) => open(store, stream, plan.kind, plan.option, plan.a, plan.b),
+        Call::Enter(entry) => words::unpacked(enter_packed(store, stream, entry)),
+        Call::Back => back(store, stream),
+        Call::Ask(size) => ask(store, stream, size),
+        Call::Read => read(store, stream),
     }
-    if STREAMS <= stream {
-        return answering::refused(2);
+}
+
+// Enters anything, for five callers: compiled as a function of its own, it hands its answer over in memory, and so in words.
+fn enter_packed(store: &mut [u8], stream: u32, entry: Entry) -> Words
+    ensures { λ r. ⌜ record { answer = answerIn r; store = now (store .exit) } ≡ onStore (now (store .entry)) (on stream (Enter entry)) ⌝ }
+{
+    words::packed(enter(store, stream, entry))
+}
+
+// Enters anything: the part of the store that starts at the stream's offset is lent on.
+fn enter(store: &mut [u8], stream: u32, entry: Entry) -> Answer
+    ensures { λ r. ⌜ record { answer = r; store = now (store .exit) } ≡ onStore (now (store .entry)) (on stream (Enter entry)) ⌝ }
+{
+    let refusal = refusal_of(store.len(), stream);
+    if refusal != 0 {
+        return answering::refused(refusal);
     }
     let start = start_of(stream);
     let end = start + sizes::AREA_LENGTH;
-    area::make(&mut store[start..end], call)
+    area::enter(&mut store[start..end], entry)
+}
+
+// The refusals that come before the area is looked at: 1 for a store of another length, 2 for a stream that does not exist.
+fn refusal_of(store_length: usize, stream: u32) -> u32
+    ensures { λ r. ⌜ r ≡ storeRefusal «store_length» stream ⌝ }
+{
+    if store_length != STORE_LENGTH {
+        return 1;
+    }
+    if STREAMS <= stream {
+        return 2;
+    }
+    0
 }
 
 // Where a stream's area starts.

@@ -1,60 +1,92 @@
-use Rattle.listening.proofs.Lending.{by-length, by-number, by-area}
 use borrow.Author.Needs.{needs}
 use Rattle.listening.proofs.make.Statement.{statement}
 use Rattle.listening.proofs.make.Tie as tie
 
-refused-requires : tie.Need-refused-requires
-refused-requires c κs = search needs
+enum-known-call : tie.Need-enum-known-call
+enum-known-call c = search needs
 
-returns : tie.Need-returns
-returns c = by-length _ _ _ (c .before .if1 .taken) (c .refused .ensures)
+open-requires : tie.Need-open-requires
+open-requires c κs = search needs
 
-refused-requires-2 : tie.Need-refused-requires-2
-refused-requires-2 c κs = search needs
+enum-known-call-2 : tie.Need-enum-known-call-2
+enum-known-call-2 c = search needs
 
-returns-2 : tie.Need-returns-2
-returns-2 c = by-number _ _ _ (c .before .before .if1 .left) (c .before .if2 .taken) (c .refused2 .ensures)
+enter-packed-requires : tie.Need-enter-packed-requires
+enter-packed-requires c κs = search needs
 
-start-of-requires : tie.Need-start-of-requires
-start-of-requires c κs = search needs
+unpacked-requires : tie.Need-unpacked-requires
+unpacked-requires c κs = search needs
 
-add-end : tie.Need-add-end
-add-end c = search needs
+enum-told : tie.Need-enum-told
+enum-told c = search needs
 
-sub-make : tie.Need-sub-make
-sub-make c = search needs
+back-requires : tie.Need-back-requires
+back-requires c κs = search needs
 
-part-make-start : tie.Need-part-make-start
-part-make-start c = search needs
+enum-known-call-3 : tie.Need-enum-known-call-3
+enum-known-call-3 c = search needs
 
-part-make-end : tie.Need-part-make-end
-part-make-end c = search needs
+ask-requires : tie.Need-ask-requires
+ask-requires c κs = search needs
 
-make-requires : tie.Need-make-requires
-make-requires c κs = search needs
+enum-told-2 : tie.Need-enum-told-2
+enum-told-2 c = search needs
+
+read-requires : tie.Need-read-requires
+read-requires c κs = search needs
 
 same-length : tie.Need-same-length
 same-length c = search needs
 
+returns : tie.Need-returns
+returns c = cc
+
+same-length-2 : tie.Need-same-length-2
+same-length-2 c = search needs
+
+returns-2 : tie.Need-returns-2
+returns-2 c = cc
+
+same-length-3 : tie.Need-same-length-3
+same-length-3 c = search needs
+
 returns-3 : tie.Need-returns-3
-returns-3 c =
-    let lent = c .before .before in
-    let started = lent .before .before in
-    by-area _ _ _ (started .before .before .if1 .left) (started .before .if2 .left) (started .start-of .ensures) (lent .make .ensures)
+returns-3 c = cc
+
+same-length-4 : tie.Need-same-length-4
+same-length-4 c = search needs
+
+returns-4 : tie.Need-returns-4
+returns-4 c = cc
+
+same-length-5 : tie.Need-same-length-5
+same-length-5 c = search needs
+
+returns-5 : tie.Need-returns-5
+returns-5 c = cc
 
 pub make-spec : {M : Type 1} → statement M
 make-spec =
     tie.close
     (tie.spec
-    refused-requires
-    returns
-    refused-requires-2
-    returns-2
-    start-of-requires
-    add-end
-    sub-make
-    part-make-start
-    part-make-end
-    make-requires
+    enum-known-call
+    open-requires
+    enum-known-call-2
+    enter-packed-requires
+    unpacked-requires
+    enum-told
+    back-requires
+    enum-known-call-3
+    ask-requires
+    enum-told-2
+    read-requires
     same-length
-    returns-3)
+    returns
+    same-length-2
+    returns-2
+    same-length-3
+    returns-3
+    same-length-4
+    returns-4
+    same-length-5
+    returns-5)

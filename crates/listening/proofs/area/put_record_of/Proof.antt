@@ -1,8 +1,6 @@
 use native.Mathlib.Omega.{arith}
 use Rattle.listening.specs.Written.{flagOf}
-use Rattle.model.specs.Stations.{entryArguments}
 use Rattle.model.specs.Area.{recordOf}
-use Rattle.model.proofs.Booleans.{no-words, word-and}
 use borrow.Author.Needs.{needs}
 use Rattle.listening.proofs.area.put_record_of.Statement.{statement}
 use Rattle.listening.proofs.area.put_record_of.Tie as tie
@@ -47,29 +45,29 @@ same-length : tie.Need-same-length
 same-length c = search needs
 
 returns : tie.Need-returns
-unfolding recordOf entryArguments
-returns c = rw (c .before .before .before .before .before .entry .given .1) (c .before .before .put-record .ensures, word-and _ _ (omega arith) (word-and _ _ (omega arith) (word-and _ _ (omega arith) (word-and _ _ (omega arith) (word-and _ _ (omega arith) no-words)))))
+unfolding recordOf
+returns c = rw (c .before .before .before .before .before .entry .given .1) (c .before .before .put-record .ensures)
 
 same-length-2 : tie.Need-same-length-2
 same-length-2 c = search needs
 
 returns-2 : tie.Need-returns-2
-unfolding recordOf entryArguments
-returns-2 c = rw (c .before .before .before .before .before .entry2 .given .1) (c .before .before .put-record2 .ensures, word-and _ _ (omega arith) (word-and _ _ (omega arith) no-words))
+unfolding recordOf
+returns-2 c = rw (c .before .before .before .before .before .entry2 .given .1) (c .before .before .put-record2 .ensures)
 
 same-length-3 : tie.Need-same-length-3
 same-length-3 c = search needs
 
 returns-3 : tie.Need-returns-3
-unfolding recordOf entryArguments
-returns-3 c = rw (c .before .before .before .before .before .entry3 .given .1) (c .before .before .put-record3 .ensures, word-and _ _ (omega arith) (word-and _ _ (omega arith) no-words))
+unfolding recordOf
+returns-3 c = rw (c .before .before .before .before .before .entry3 .given .1) (c .before .before .put-record3 .ensures)
 
 same-length-4 : tie.Need-same-length-4
 same-length-4 c = search needs
 
 returns-4 : tie.Need-returns-4
-unfolding recordOf entryArguments
-returns-4 c = rw (c .before .before .before .before .before .entry4 .given .1) (c .before .before .put-record4 .ensures, word-and _ _ (omega arith) (word-and _ _ (omega arith) no-words))
+unfolding recordOf
+returns-4 c = rw (c .before .before .before .before .before .entry4 .given .1) (c .before .before .put-record4 .ensures)
 
 pub put-record-of-spec : {M : Type 1} → statement M
 put-record-of-spec =
