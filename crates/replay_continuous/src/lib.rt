@@ -142,14 +142,11 @@ fn is_wrong_block(interval: u32, head: u32, heard: u32) -> bool
     false
 }
 
-// Whether a record has a second, third or fourth number. The second and third are compared at once, as one of 64 bits.
+// Whether a record has a second, third or fourth number. The three are put together first, so that one comparison tells.
 fn has_more(read: Record) -> bool
     ensures { λ r. ⌜ r ≡ not (oneNumber read) ⌝ }
 {
-    if read.b as u64 + read.c as u64 * 4294967296 != 0 {
-        return true;
-    }
-    read.d != 0
+    (read.b as u64 + read.c as u64 * 4294967296) | read.d as u64 != 0
 }
 
 // The place after a record that stands.
