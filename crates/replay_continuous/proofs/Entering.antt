@@ -298,50 +298,43 @@ module _ (p : Plan) (left tail acc : ℕ) (r : Record) (known : Known p left tai
     -- ---- records that cannot stand
 
     -- a head says one kind of record alone
-    other-kind : (k w l : ℕ) → k < 256 → w < 256 → head ≡ k + w * 256 → (k ≡ l → ⊥) → r .kind ≡ l → ⊥
-    other-kind k w l hk hw e other kind =
-        let x = parts k w hk hw e in
+    other-kind : (k l : ℕ) → k < 256 → head ≡ k → (k ≡ l → ⊥) → r .kind ≡ l → ⊥
+    other-kind k l hk e other kind =
+        let x = parts k 0 hk (omega arith) (omega arith) in
         omega arith
 
-    no-stop : (k w : ℕ) → k < 4 → w < 256 → head ≡ k + w * 256 → isStop r ≡ true → ⊥
-    no-stop k w hk hw e h =
-        other-kind k w 4 (omega arith) hw e (λ z. omega arith) (stop-form r (headed .kindByte) h .0)
-
-    run-falls : (w : ℕ) → w < 256 → head ≡ 2 + w * 256
-        → ((start : Figures) (i : ℕ) → AllowedRun p (figuresAt (p .a) start left tail acc) i (r .a) w → ⊥)
-        → Reaches p left tail acc r nowhere
-    run-falls w hw e run =
-        let x = parts 2 w (omega arith) hw e in
-        fallen (λ start i k s m allowed. run start i (rw (x .1) at allowed))
-        (λ start i k s m allowed. other-kind 2 w 3 (omega arith) hw e (λ z. omega arith) k)
-        (λ m h. no-stop 2 w (omega arith) hw e h)
+    no-stop : (k : ℕ) → k < 4 → head ≡ k → isStop r ≡ true → ⊥
+    no-stop k hk e h = other-kind k 4 (omega arith) e (λ z. omega arith) (stop-form r (headed .kindByte) h .0)
 
     pub right-run-falls : head ≡ 2 → within 1 left (r .a) ≡ false → Reaches p left tail acc r nowhere
     right-run-falls e h =
-        run-falls 0 (omega arith) e
-        (λ start i x.
-        let fits = run-fits p left tail acc i (r .a) 0 start (known .placed .least) x in
+        let form = parts 2 0 (omega arith) (omega arith) e in
+        fallen
+        (λ start i k s m x.
+        let fits = run-fits p left tail acc i (r .a) (r .flag) start (known .placed .least) x in
         let some = x .some in
         never-both _ (in-range 1 left (r .a) (omega arith) (omega arith)) h)
-
-    pub wrong-run-falls : head ≡ 258 → left ≤ r .a → Reaches p left tail acc r nowhere
-    wrong-run-falls e h =
-        run-falls 1 (omega arith) e
-        (λ start i x.
-        let fits = run-fits p left tail acc i (r .a) 1 start (known .placed .least) x in
-        omega arith)
+        (λ start i k s m x. other-kind 2 3 (omega arith) e (λ z. omega arith) k)
+        (λ m x. no-stop 2 (omega arith) e x)
 
     pub block-falls : head ≡ 3 → within 1 (p .b) (r .a) ≡ false → Reaches p left tail acc r nowhere
     block-falls e h =
-        fallen (λ start i k s m x. other-kind 3 0 2 (omega arith) (omega arith) e (λ z. omega arith) k)
+        fallen (λ start i k s m x. other-kind 3 2 (omega arith) e (λ z. omega arith) k)
         (λ start i k s m x. never-both _ (in-range 1 (p .b) (r .a) (x .first) (x .last)) h)
-        (λ m x. no-stop 3 0 (omega arith) (omega arith) e x)
+        (λ m x. no-stop 3 (omega arith) e x)
 
-    pub screening-falls : 1 ≤ left → (head ≡ 2 → ⊥) → (head ≡ 258 → ⊥) → isStop r ≡ false → Reaches p left tail acc r nowhere
+    -- neither a run that fits, nor a stop
+    pub screening-falls : 1 ≤ left → (head ≡ 2 → ⊥) → (r .a < left → head ≡ 258 → ⊥) → isStop r ≡ false
+        → Reaches p left tail acc r nowhere
     unfolding headOf
     screening-falls some right wrong stop =
         let same = headed .same in
-        fallen (λ start i k s m x. let w = x .wrong in omega arith)
+        fallen
+        (λ start i k s m x.
+        let fits = run-fits p left tail acc i (r .a) (r .flag) start (known .placed .least) x in
+        let w = x .wrong in
+        let e : head ≡ 258 = omega arith in
+        wrong (omega arith) e)
         (λ start i k s m x. let none = block-met p left tail acc i (r .a) (r .flag) start x in omega arith)
         (λ m x. never-both _ x stop)
 

@@ -1,7 +1,7 @@
 // The replay of a continuous stream's records: paper 01, "Continuous".
 //
 // It does not carry the state as the area has it. One number, left, is what is still to be screened until clearance, i - c, and 0
-// in sampling, where no run fits: so one comparison decides a run, and what changes stays in three registers.
+// in sampling: so it says the phase and which run fits, and what changes stays in three registers.
 ghost use mathlib.Core.Path.{_≡_};
 ghost use mathlib.Core.Bool.{not, _&&_};
 ghost use Prim.Native.Nat.{_≤_};
@@ -55,7 +55,7 @@ pub fn replay(area: &[u8], plan: Plan, figures: Figures, from: usize, to: usize)
     }
 }
 
-// Enters a record. A run is looked for first and needs no test of the phase: none fits where nothing is left.
+// Enters a record. The phase is looked at first, so that a block's head is not compared with a run's.
 fn enter(plan: Plan, left: u32, tail: u32, accepted: u64, read: Record) -> Place
     requires { ⌜ Known plan left tail accepted ⌝ }
     ensures { λ r. ⌜ Reaches plan left tail accepted read r ⌝ }
@@ -64,6 +64,9 @@ fn enter(plan: Plan, left: u32, tail: u32, accepted: u64, read: Record) -> Place
         return fail();
     }
     let head = replaying::head_of(read);
+    if left == 0 {
+        return enter_sampling(plan, tail, accepted, head, read);
+    }
     if head == replaying::RUN {
         let right = read.a;
         if plan::within(1, left, right) {
@@ -71,13 +74,11 @@ fn enter(plan: Plan, left: u32, tail: u32, accepted: u64, read: Record) -> Place
         }
         return fail();
     }
-    if left == 0 {
-        return enter_sampling(plan, tail, accepted, head, read);
-    }
     enter_screening(plan, left, tail, accepted, head, read)
 }
 
-// Enters a record in screening that is no run of right detections alone.
+// Enters a record in screening that is no run of right detections alone. Its number is looked at before its head, so that the
+// compiler keeps this order. A wrong run that does not fit is no stop either.
 fn enter_screening(
     plan: Plan,
     left: u32,
@@ -89,12 +90,11 @@ fn enter_screening(
     requires { ⌜ Known plan left tail accepted × HeadRead head read × (1 ≤ left) × (head ≡ 2 → ⊥) ⌝ }
     ensures { λ r. ⌜ Reaches plan left tail accepted read r ⌝ }
 {
-    if head == replaying::RUN_WRONG {
-        let right = read.a;
-        if right < left {
+    let right = read.a;
+    if right < left {
+        if head == replaying::RUN_WRONG {
             return stand(plan.a, tail, accepted + right as u64);
         }
-        return fail();
     }
     if replaying::is_stop(head, read) {
         if head == replaying::CHANGE {
