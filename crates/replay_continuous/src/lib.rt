@@ -10,9 +10,12 @@ ghost use Rattle.model.specs.Stations.{within as isWithin};
 ghost use Rattle.replaying.specs.Replaying.{oneNumber, Ready, Replayed};
 ghost use Rattle.replay_continuous.specs.Places.{leftOf, stateOf, figuresAt, stoodAt, nowhere, Known, HeadRead, Reaches};
 use model::Figures;
+use model::NO_LABEL;
 use model::Plan;
 use plans::continuous;
 use plans::continuous::Continuous;
+use plans::credit::Credit;
+use plans::level::LevelState;
 use plans::stops;
 use records::Record;
 use replaying::Entered;
@@ -51,7 +54,7 @@ pub fn replay(area: &[u8], plan: Plan, figures: Figures, from: usize, to: usize)
     }
     Entered {
         sound: true,
-        figures: figures_at(plan.a, figures, left, tail, accepted),
+        figures: figures_at(plan.a, left, tail, accepted),
     }
 }
 
@@ -199,19 +202,23 @@ fn state_of(clearance: u32, left: u32, tail: u32) -> Continuous
     Continuous::screen(clearance - left)
 }
 
-// Figures at another place: credit, level and label are those of the start.
-fn figures_at(clearance: u32, start: Figures, left: u32, tail: u32, accepted: u64) -> Figures
+// The figures of that state. Credit, level and label are foreign to a continuous stream, so they are written here: nothing that
+// stays the same has to be handed in and out.
+fn figures_at(clearance: u32, left: u32, tail: u32, accepted: u64) -> Figures
     requires { ⌜ (left ≤ clearance) × (tail ≤ 200) ⌝ }
-    ensures { λ r. ⌜ r ≡ figuresAt clearance start left tail accepted ⌝ }
+    ensures { λ r. ⌜ r ≡ figuresAt clearance left tail accepted ⌝ }
 {
-    let credit = start.credit;
-    let level = start.level;
     let continuous = state_of(clearance, left, tail);
     Figures {
-        credit,
-        level,
+        credit: Credit(0),
+        level: LevelState {
+            level: 0,
+            row: 0,
+            judged: 0,
+            window: 0,
+        },
         continuous,
         accepted,
-        newest: start.newest,
+        newest: NO_LABEL,
     }
 }
