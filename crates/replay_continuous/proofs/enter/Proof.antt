@@ -34,7 +34,7 @@ within-requires : tie.Need-within-requires
 within-requires c κs = search needs
 
 sub-stand : tie.Need-sub-stand
-sub-stand c = within-of 1 _ _ (sym (c .before .within .ensures) ∙ c .if4 .taken) .1
+sub-stand c = within-of _ _ _ (sym (c .before .within .ensures) ∙ c .if4 .taken) .1
 
 cast-stand : tie.Need-cast-stand
 cast-stand c = search needs
