@@ -13,7 +13,7 @@ use Rattle.model.specs.declared.Entry.{Entry}
 use Rattle.model.specs.declared.Entry.the-variants.{Run, Block, Stop}
 use Rattle.model.specs.declared.Figures.{Figures}
 use Rattle.model.specs.Stations.{isLevel, isContinuous, within}
-use Rattle.model.specs.Figuring.{stepped, creditStep, levelStep, continuousStep, acceptedBy, isLot, labelOf}
+use Rattle.model.specs.Figuring.{noLevel, stepped, creditStep, levelStep, continuousStep, acceptedBy, isLot, labelOf}
 use Rattle.model.specs.Calls.{isDiscontinued, accepts}
 use Rattle.model.proofs.Booleans.{both-true, never-both, within-of}
 use Rattle.model.proofs.Allowed.{AllowedRun, AllowedBlock, continuous-plan}
@@ -76,20 +76,20 @@ run-state p left tail h placed some fits = go (eqb (left - h) 0) refl
 
 -- ---- the figures that they stand for
 
-module _ (p : Plan) (kind : p .kind ≡ 3) (left tail acc : ℕ) (start : Figures) where
+module _ (p : Plan) (kind : p .kind ≡ 3) (left tail acc : ℕ) where
   run-step : (h w l t : ℕ) → afterRun (p .a) h (eqb w 1) (stateOf (p .a) left tail) ≡ stateOf (p .a) l t
-      → stepped p (Run h w) (figuresAt (p .a) start left tail acc) ≡ figuresAt (p .a) start l t (acc + h)
+      → stepped p (Run h w) (figuresAt (p .a) left tail acc) ≡ figuresAt (p .a) l t (acc + h)
   unfolding stepped figuresAt creditStep levelStep continuousStep acceptedBy isLot labelOf
   run-step h w l t e = rw e
 
   block-step : (q w l t a : ℕ) → afterBlock (p .b) q (eqb w 1) (stateOf (p .a) left tail) .state ≡ stateOf (p .a) l t
       → afterBlock (p .b) q (eqb w 1) (stateOf (p .a) left tail) .accepted ≡ a
-      → stepped p (Block q w) (figuresAt (p .a) start left tail acc) ≡ figuresAt (p .a) start l t (acc + a)
+      → stepped p (Block q w) (figuresAt (p .a) left tail acc) ≡ figuresAt (p .a) l t (acc + a)
   unfolding stepped figuresAt creditStep levelStep continuousStep acceptedBy isLot labelOf
   block-step q w l t a e more = rw (e, more)
 
   stop-step : (why days l t : ℕ) → afterStop why days (stateOf (p .a) left tail) ≡ stateOf (p .a) l t
-      → stepped p (Stop why days) (figuresAt (p .a) start left tail acc) ≡ figuresAt (p .a) start l t acc
+      → stepped p (Stop why days) (figuresAt (p .a) left tail acc) ≡ figuresAt (p .a) l t acc
   unfolding stepped figuresAt creditStep levelStep continuousStep acceptedBy isLot labelOf isLevel isContinuous
   stop-step why days l t e = rw (kind, e, add-zero acc)
 
@@ -106,18 +106,17 @@ unfolding within
 in-range low high n h k = rw (le-leb low n h, le-leb n high k)
 
 -- a run fits what is left; a block is met where nothing is
-run-fits : (p : Plan) (left tail acc i h w : ℕ) (start : Figures) → left ≤ p .a
-    → AllowedRun p (figuresAt (p .a) start left tail acc) i h w → h + w ≤ left
+run-fits : (p : Plan) (left tail acc i h w : ℕ) → left ≤ p .a
+    → AllowedRun p (figuresAt (p .a) left tail acc) i h w → h + w ≤ left
 unfolding figuresAt
-run-fits p left tail acc i h w start most x =
+run-fits p left tail acc i h w most x =
     let phase : eqb left 0 ≡ false = sym (phase-of (p .a) tail left) ∙ x .screened in
     let some = eqb-false left 0 phase in
     omega (arith, count-of (p .a) tail left (omega arith), x .fits)
 
-block-met : (p : Plan) (left tail acc i q w : ℕ) (start : Figures)
-    → AllowedBlock p (figuresAt (p .a) start left tail acc) i q w → left ≡ 0
+block-met : (p : Plan) (left tail acc i q w : ℕ) → AllowedBlock p (figuresAt (p .a) left tail acc) i q w → left ≡ 0
 unfolding figuresAt
-block-met p left tail acc i q w start x = eqb-true left 0 (sym (phase-of (p .a) tail left) ∙ x .sampled)
+block-met p left tail acc i q w x = eqb-true left 0 (sym (phase-of (p .a) tail left) ∙ x .sampled)
 
 module _ (p : Plan) (left tail acc : ℕ) (r : Record) (known : Known p left tail acc) where
   continuous : isContinuous p ≡ true
@@ -127,34 +126,36 @@ module _ (p : Plan) (left tail acc : ℕ) (r : Record) (known : Known p left tai
   positive : 1 ≤ p .a
   positive = continuous-plan p (known .valid) continuous .clearance
 
+  -- a continuous stream is never discontinued
+  running : isDiscontinued (figuresAt (p .a) left tail acc) ≡ false
+  unfolding figuresAt isDiscontinued noLevel
+  running = refl
+
   -- an accepted entry takes the replay on
   taken : (e : Entry) (l t a : ℕ) → Placed p l t → ((f : Figures) → (wellFormed r ≡ true) × (entryOf p f r ≡ e))
-      → ((start : Figures) (i : ℕ) → isDiscontinued start ≡ false → i < 128
-      → accepts p (figuresAt (p .a) start left tail acc) i e ≡ true)
-      → ((start : Figures) → stepped p e (figuresAt (p .a) start left tail acc) ≡ figuresAt (p .a) start l t a)
+      → ((i : ℕ) → i < 128 → accepts p (figuresAt (p .a) left tail acc) i e ≡ true)
+      → stepped p e (figuresAt (p .a) left tail acc) ≡ figuresAt (p .a) l t a
       → Reaches p left tail acc r (stoodAt l t a)
   unfolding stoodAt reached soundAt
   taken e l t a placed form fits step =
       record {
         placed = placed;
-        says = λ start i running room.
-            let f : Figures = figuresAt (p .a) start left tail acc in
-            accepted p f i r e (form f .0) (form f .1) (fits start i running room) ∙ ap soundAt (step start);
+        says = λ i room.
+            let f : Figures = figuresAt (p .a) left tail acc in
+            accepted p f i r e (form f .0) (form f .1) (fits i room) ∙ ap soundAt step;
       }
 
   -- one that is no run, block or stop ends it
-  fallen : ((start : Figures) (i : ℕ) → r .kind ≡ 2 → r .spare ≡ 0 → NoMore r
-      → AllowedRun p (figuresAt (p .a) start left tail acc) i (r .a) (r .flag) → ⊥)
-      → ((start : Figures) (i : ℕ) → r .kind ≡ 3 → r .spare ≡ 0 → NoMore r
-      → AllowedBlock p (figuresAt (p .a) start left tail acc) i (r .a) (r .flag) → ⊥)
+  fallen : ((i : ℕ) → r .kind ≡ 2 → r .spare ≡ 0 → NoMore r → AllowedRun p (figuresAt (p .a) left tail acc) i (r .a) (r .flag) → ⊥)
+      → ((i : ℕ) → r .kind ≡ 3 → r .spare ≡ 0 → NoMore r → AllowedBlock p (figuresAt (p .a) left tail acc) i (r .a) (r .flag) → ⊥)
       → (NoMore r → isStop r ≡ true → ⊥)
       → Reaches p left tail acc r nowhere
-  unfolding nowhere reached unsoundAt figuresAt isDiscontinued
+  unfolding nowhere reached unsoundAt
   fallen run block stop =
       record {
         placed = record { least = omega arith; noTail = λ h. refl; short = omega arith };
-        says = λ start i running room.
-            cannot-stand p (figuresAt (p .a) start left tail acc) i r continuous running room (run start i) (block start i) stop;
+        says = λ i room.
+            cannot-stand p (figuresAt (p .a) left tail acc) i r continuous running room (run i) (block i) stop;
       }
 
   -- a pause is looked at in sampling alone
@@ -165,7 +166,7 @@ module _ (p : Plan) (left tail acc : ℕ) (r : Record) (known : Known p left tai
   in-short short = rw (le-ltb 3 (r .a) short, and-false (eqb left 0))
 
   pub more-falls : (NoMore r → ⊥) → Reaches p left tail acc r nowhere
-  more-falls more = fallen (λ start i k s m x. more m) (λ start i k s m x. more m) (λ m x. more m)
+  more-falls more = fallen (λ i k s m x. more m) (λ i k s m x. more m) (λ m x. more m)
 
   module _ (head : ℕ) (headed : HeadRead head r) where
     parts : (k w : ℕ) → k < 256 → w < 256 → head ≡ k + w * 256 → (r .kind ≡ k) × (r .flag ≡ w) × (r .spare ≡ 0)
@@ -184,8 +185,8 @@ module _ (p : Plan) (left tail acc : ℕ) (r : Record) (known : Known p left tai
         taken (Run (r .a) (r .flag)) l tail (acc + r .a)
         (record { least = most; noTail = λ h. known .placed .noTail (omega arith); short = known .placed .short })
         (λ f. (run-formed r (x .0) (x .2) (headed .more), run-of p f r (x .0)))
-        (λ start i running room.
-        run-accepts p (figuresAt (p .a) start left tail acc) i (r .a) (r .flag)
+        (λ i room.
+        run-accepts p (figuresAt (p .a) left tail acc) i (r .a) (r .flag)
         (record {
           continuous = continuous;
           room = room;
@@ -195,7 +196,7 @@ module _ (p : Plan) (left tail acc : ℕ) (r : Record) (known : Known p left tai
           screened = phase-of (p .a) tail left ∙ ne-eqb left 0 held;
           fits = omega (arith, count-of (p .a) tail left (omega arith));
         }))
-        (λ start. run-step p (known .kind) left tail acc start (r .a) (r .flag) l tail (rw (x .1) after))
+        (run-step p (known .kind) left tail acc (r .a) (r .flag) l tail (rw (x .1) after))
 
     pub right-run : head ≡ 2 → within 1 left (r .a) ≡ true → Reaches p left tail acc r (stoodAt (left - r .a) tail (acc + r .a))
     right-run e h =
@@ -213,14 +214,13 @@ module _ (p : Plan) (left tail acc : ℕ) (r : Record) (known : Known p left tai
     stop-taken : (l t : ℕ) → isStop r ≡ true → Placed p l t
         → afterStop (r .flag) (r .a) (stateOf (p .a) left tail) ≡ stateOf (p .a) l t
         → Reaches p left tail acc r (stoodAt l t acc)
-    unfolding figuresAt isDiscontinued
     stop-taken l t h placed after =
         let x = stop-form r (headed .kindByte) h in
         taken (Stop (r .flag) (r .a)) l t acc placed
         (λ f. (stop-formed r (x .0) (x .1) (headed .more), stop-of p f r (x .0)))
-        (λ start i running room.
-        stop-accepts p (figuresAt (p .a) start left tail acc) i r running room (x .0) (x .1) (headed .more) ∙ h)
-        (λ start. stop-step p (known .kind) left tail acc start (r .flag) (r .a) l t after)
+        (λ i room.
+        stop-accepts p (figuresAt (p .a) left tail acc) i r running room (x .0) (x .1) (headed .more) ∙ h)
+        (stop-step p (known .kind) left tail acc (r .flag) (r .a) l t after)
 
     whole : Placed p (p .a) 0
     whole = record { least = omega arith; noTail = λ h. refl; short = omega arith }
@@ -265,8 +265,8 @@ module _ (p : Plan) (left tail acc : ℕ) (r : Record) (known : Known p left tai
         let range = within-of 1 (p .b) (r .a) counts in
         taken (Block (r .a) (r .flag)) l t (acc + a) placed
         (λ f. (block-formed r (x .0) (x .2) (headed .more), block-of p f r (x .0)))
-        (λ start i running room.
-        block-accepts p (figuresAt (p .a) start left tail acc) i (r .a) (r .flag)
+        (λ i room.
+        block-accepts p (figuresAt (p .a) left tail acc) i (r .a) (r .flag)
         (record {
           continuous = continuous;
           room = room;
@@ -275,7 +275,7 @@ module _ (p : Plan) (left tail acc : ℕ) (r : Record) (known : Known p left tai
           wrong = omega arith;
           sampled = phase-of (p .a) tail left ∙ eq-eqb left 0 none;
         }))
-        (λ start. block-step p (known .kind) left tail acc start (r .a) (r .flag) l t a (rw (x .1) after) (rw (x .1) more))
+        (block-step p (known .kind) left tail acc (r .a) (r .flag) l t a (rw (x .1) after) (rw (x .1) more))
 
     pub right-block : head ≡ 3 → left ≡ 0 → within 1 (p .b) (r .a) ≡ true
         → Reaches p left tail acc r (stoodAt 0 (p .b - r .a) (acc + p .b))
@@ -298,51 +298,44 @@ module _ (p : Plan) (left tail acc : ℕ) (r : Record) (known : Known p left tai
     -- ---- records that cannot stand
 
     -- a head says one kind of record alone
-    other-kind : (k w l : ℕ) → k < 256 → w < 256 → head ≡ k + w * 256 → (k ≡ l → ⊥) → r .kind ≡ l → ⊥
-    other-kind k w l hk hw e other kind =
-        let x = parts k w hk hw e in
+    other-kind : (k l : ℕ) → k < 256 → head ≡ k → (k ≡ l → ⊥) → r .kind ≡ l → ⊥
+    other-kind k l hk e other kind =
+        let x = parts k 0 hk (omega arith) (omega arith) in
         omega arith
 
-    no-stop : (k w : ℕ) → k < 4 → w < 256 → head ≡ k + w * 256 → isStop r ≡ true → ⊥
-    no-stop k w hk hw e h =
-        other-kind k w 4 (omega arith) hw e (λ z. omega arith) (stop-form r (headed .kindByte) h .0)
-
-    run-falls : (w : ℕ) → w < 256 → head ≡ 2 + w * 256
-        → ((start : Figures) (i : ℕ) → AllowedRun p (figuresAt (p .a) start left tail acc) i (r .a) w → ⊥)
-        → Reaches p left tail acc r nowhere
-    run-falls w hw e run =
-        let x = parts 2 w (omega arith) hw e in
-        fallen (λ start i k s m allowed. run start i (rw (x .1) at allowed))
-        (λ start i k s m allowed. other-kind 2 w 3 (omega arith) hw e (λ z. omega arith) k)
-        (λ m h. no-stop 2 w (omega arith) hw e h)
+    no-stop : (k : ℕ) → k < 4 → head ≡ k → isStop r ≡ true → ⊥
+    no-stop k hk e h = other-kind k 4 (omega arith) e (λ z. omega arith) (stop-form r (headed .kindByte) h .0)
 
     pub right-run-falls : head ≡ 2 → within 1 left (r .a) ≡ false → Reaches p left tail acc r nowhere
     right-run-falls e h =
-        run-falls 0 (omega arith) e
-        (λ start i x.
-        let fits = run-fits p left tail acc i (r .a) 0 start (known .placed .least) x in
+        let form = parts 2 0 (omega arith) (omega arith) e in
+        fallen
+        (λ i k s m x.
+        let fits = run-fits p left tail acc i (r .a) (r .flag) (known .placed .least) x in
         let some = x .some in
         never-both _ (in-range 1 left (r .a) (omega arith) (omega arith)) h)
-
-    pub wrong-run-falls : head ≡ 258 → left ≤ r .a → Reaches p left tail acc r nowhere
-    wrong-run-falls e h =
-        run-falls 1 (omega arith) e
-        (λ start i x.
-        let fits = run-fits p left tail acc i (r .a) 1 start (known .placed .least) x in
-        omega arith)
+        (λ i k s m x. other-kind 2 3 (omega arith) e (λ z. omega arith) k)
+        (λ m x. no-stop 2 (omega arith) e x)
 
     pub block-falls : head ≡ 3 → within 1 (p .b) (r .a) ≡ false → Reaches p left tail acc r nowhere
     block-falls e h =
-        fallen (λ start i k s m x. other-kind 3 0 2 (omega arith) (omega arith) e (λ z. omega arith) k)
-        (λ start i k s m x. never-both _ (in-range 1 (p .b) (r .a) (x .first) (x .last)) h)
-        (λ m x. no-stop 3 0 (omega arith) (omega arith) e x)
+        fallen (λ i k s m x. other-kind 3 2 (omega arith) e (λ z. omega arith) k)
+        (λ i k s m x. never-both _ (in-range 1 (p .b) (r .a) (x .first) (x .last)) h)
+        (λ m x. no-stop 3 (omega arith) e x)
 
-    pub screening-falls : 1 ≤ left → (head ≡ 2 → ⊥) → (head ≡ 258 → ⊥) → isStop r ≡ false → Reaches p left tail acc r nowhere
+    -- neither a run that fits, nor a stop
+    pub screening-falls : 1 ≤ left → (head ≡ 2 → ⊥) → (r .a < left → head ≡ 258 → ⊥) → isStop r ≡ false
+        → Reaches p left tail acc r nowhere
     unfolding headOf
     screening-falls some right wrong stop =
         let same = headed .same in
-        fallen (λ start i k s m x. let w = x .wrong in omega arith)
-        (λ start i k s m x. let none = block-met p left tail acc i (r .a) (r .flag) start x in omega arith)
+        fallen
+        (λ i k s m x.
+        let fits = run-fits p left tail acc i (r .a) (r .flag) (known .placed .least) x in
+        let w = x .wrong in
+        let e : head ≡ 258 = omega arith in
+        wrong (omega arith) e)
+        (λ i k s m x. let none = block-met p left tail acc i (r .a) (r .flag) x in omega arith)
         (λ m x. never-both _ x stop)
 
     pub sampling-falls : left ≡ 0 → (head ≡ 3 → ⊥) → within 1 (p .b) (r .a) && eqb head 259 ≡ false → isStop r ≡ false
@@ -351,11 +344,11 @@ module _ (p : Plan) (left tail acc : ℕ) (r : Record) (known : Known p left tai
     sampling-falls none right wrong stop =
         let same = headed .same in
         fallen
-        (λ start i k s m x.
-        let fits = run-fits p left tail acc i (r .a) (r .flag) start (known .placed .least) x in
+        (λ i k s m x.
+        let fits = run-fits p left tail acc i (r .a) (r .flag) (known .placed .least) x in
         let some = x .some in
         omega arith)
-        (λ start i k s m x.
+        (λ i k s m x.
         let w = x .wrong in
         let e : head ≡ 259 = omega arith in
         never-both _ (rw (in-range 1 (p .b) (r .a) (x .first) (x .last)) (eq-eqb head 259 e)) wrong)

@@ -1,9 +1,10 @@
 -- Which records can stand on a continuous stream: those of accepted runs, blocks and stops, and no others. Assumes nothing.
-use Prim.Native.Nat.{ℕ, _+_, _*_, _<_}
+use Prim.Native.Nat.{ℕ, zero, suc, _+_, _*_, _<_}
 use mathlib.Core.Path.{_≡_, refl, sym, _∙_}
 use mathlib.Core.Bool.{Bool, true, false, cond, not, _&&_, _||_}
 use native.Mathlib.Omega.{arith}
-use lib.Dec.{eqb}
+use lib.Bits.{bitOr, or-add-and, and-le-r}
+use lib.Dec.{eqb, eqb·suc-zero}
 use borrow.Author.Tests.{eq-eqb, ne-eqb, le-leb, lt-leb, le-ltb, eqb-true}
 use Rattle.model.specs.declared.Plan.{Plan}
 use Rattle.model.specs.declared.Entry.the-variants.{Run, Block, Stop}
@@ -47,13 +48,16 @@ module _ (p : Plan) (f : Figures) (i : ℕ) where
         x .sampled,
       )
 
-module _ (r : Record) where
-  -- two numbers compared as one
-  pub has-more : (r .b + r .c * 4294967296 ≡ 0 → ⊥) → true ≡ not (oneNumber r)
-  has-more some = rw (← both-zero (r .b) (r .c), ne-eqb (r .b + r .c * 4294967296) 0 some)
+-- a bit of either is a bit of the two together
+either-bit : (x y : ℕ) → eqb (bitOr x y) 0 ≡ eqb x 0 && eqb y 0
+either-bit zero y = refl
+either-bit (suc x) y =
+    rw (eqb·suc-zero x) (ne-eqb (bitOr (suc x) y) 0 (λ e. omega (arith, or-add-and (suc x) y, and-le-r (suc x) y)))
 
-  pub last-number : r .b + r .c * 4294967296 ≡ 0 → not (eqb (r .d) 0) ≡ not (oneNumber r)
-  last-number none = rw (← both-zero (r .b) (r .c), eq-eqb (r .b + r .c * 4294967296) 0 none)
+module _ (r : Record) where
+  -- three numbers compared as one
+  pub has-more : not (eqb (bitOr (r .b + r .c * 4294967296) (r .d)) 0) ≡ not (oneNumber r)
+  has-more = rw (either-bit (r .b + r .c * 4294967296) (r .d), both-zero (r .b) (r .c))
 
   pub some-more : (more : Bool) → more ≡ not (oneNumber r) → more ≡ true → NoMore r → ⊥
   some-more more e some m =

@@ -14,14 +14,11 @@ use Rattle.plans.proofs.Booleans.{either}
 use Rattle.model.specs.declared.Plan.{Plan}
 use Rattle.model.specs.declared.Entry.{Entry}
 use Rattle.model.specs.declared.Entry.the-variants.{Lot, Run, Block, Stop}
-use Rattle.model.specs.Stations.{validPlan, isLevel, isContinuous}
-use Rattle.model.specs.Figuring.{noLevel, started, stepped, continuousStep, figuresOf}
-use Rattle.model.specs.Calls.{isDiscontinued, admissible}
-use Rattle.model.specs.Area.{entriesIn}
+use Rattle.model.specs.Stations.{validPlan, isContinuous}
+use Rattle.model.specs.Figuring.{noLabel, started, continuousStep, isLot, stepped, figuresOf}
+use Rattle.model.specs.Calls.{admissible}
 use Rattle.model.proofs.Booleans.{never-both}
 use Rattle.model.proofs.Allowed.{allowed-lot, allowed-run, newest-of, continuous-plan}
-use Rattle.model.proofs.Backward.{level-foreign}
-use Rattle.replaying.specs.Replaying.{figuresTo, recordsIn}
 use Rattle.replay_continuous.specs.Places.{leftOf, stateOf, Placed}
 use Rattle.replay_continuous.proofs.Entering.{screened}
 
@@ -46,13 +43,17 @@ module _ (p : Plan) (valid : T (validPlan p)) (kind : p .kind ≡ 3) where
   anew : InPhase (p .a) (screening 0)
   anew = inScreening 0 (continuous-plan p valid continuous .clearance)
 
+  -- no lot stands on it
+  no-lot : (label N n d D : ℕ) (es : List Entry) → T (admissible p (Lot label N n d D ∷ es)) → ⊥
+  no-lot label N n d D es ok =
+      let newest = newest-of p (Lot label N n d D) es ok in
+      let allowed = allowed-lot p (figuresOf p es) (length es) label N n d D (newest .accepted) in
+      never-both (isContinuous p) continuous (allowed .lots)
+
   pub in-phase : (es : List Entry) → T (admissible p es) → InPhase (p .a) (figuresOf p es .continuous)
   unfolding figuresOf started stepped continuousStep afterRun afterBlock afterStop
   in-phase [] ok = anew
-  in-phase (Lot label N n d D ∷ es) ok =
-      let newest = newest-of p (Lot label N n d D) es ok in
-      let allowed = allowed-lot p (figuresOf p es) (length es) label N n d D (newest .accepted) in
-      absurd (never-both (isContinuous p) continuous (allowed .lots))
+  in-phase (Lot label N n d D ∷ es) ok = absurd (no-lot label N n d D es ok)
   in-phase (Run h w ∷ es) ok =
       let newest = newest-of p (Run h w) es ok in
       let allowed = allowed-run p (figuresOf p es) (length es) h w (newest .accepted) in
@@ -66,10 +67,13 @@ module _ (p : Plan) (valid : T (validPlan p)) (kind : p .kind ≡ 3) where
       (either (InPhase (p .a)) (setUpChanged why || isSampling (figuresOf p es .continuous) && longStop days) anew before)
       before
 
-  -- it is never discontinued
-  pub never-discontinued : (area : List ℕ) (i : ℕ) → isDiscontinued (figuresTo p area i) ≡ false
-  unfolding isDiscontinued figuresTo noLevel isLevel
-  never-discontinued area i = rw (level-foreign p (entriesIn p (recordsIn area) i) (rw kind))
+  pub label-foreign : (es : List Entry) → T (admissible p es) → figuresOf p es .newest ≡ noLabel
+  unfolding figuresOf started stepped isLot
+  label-foreign [] ok = refl
+  label-foreign (Lot label N n d D ∷ es) ok = absurd (no-lot label N n d D es ok)
+  label-foreign (Run h w ∷ es) ok = label-foreign es (newest-of p (Run h w) es ok .others)
+  label-foreign (Block q w ∷ es) ok = label-foreign es (newest-of p (Block q w) es ok .others)
+  label-foreign (Stop why days ∷ es) ok = label-foreign es (newest-of p (Stop why days) es ok .others)
 
 -- what a state in phase leaves to be screened
 pub record Starts (p : Plan) (s : Continuous) : Type 0 where

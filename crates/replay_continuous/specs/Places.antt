@@ -1,4 +1,5 @@
--- A continuous stream as its replay carries it: what is left to be screened, the tail, and how many are accepted. Assumes nothing.
+-- A continuous stream (paper 01, "Continuous") as its replay carries it: what is left to be screened, the tail, and how many are
+-- accepted. Assumes nothing.
 use Prim.Native.Nat.{ℕ, _-_, _≤_, _<_}
 use mathlib.Core.Path.{_≡_}
 use mathlib.Core.Bool.{true, false, cond}
@@ -10,7 +11,7 @@ use Rattle.model.specs.declared.Plan.{Plan}
 use Rattle.model.specs.declared.Figures.{Figures}
 use Rattle.model.specs.Sizes.{mostRecords}
 use Rattle.model.specs.Stations.{validPlan}
-use Rattle.model.specs.Calls.{isDiscontinued}
+use Rattle.model.specs.Figuring.{noLevel, noLabel}
 use Rattle.records.specs.declared.Record.{Record}
 use Rattle.replaying.specs.declared.Entered.{Entered}
 use Rattle.replaying.specs.Replaying.{headOf, enteredIf, entered, NoMore}
@@ -24,15 +25,15 @@ leftOf clearance s = cond (isSampling s) 0 (clearance - s .count)
 unfoldable pub stateOf : ℕ → ℕ → ℕ → Continuous
 stateOf clearance left tail = cond (eqb left 0) (sampling tail) (screening (clearance - left))
 
--- the figures there: what no record of a continuous stream changes is as at the start
-unfoldable pub figuresAt : ℕ → Figures → ℕ → ℕ → ℕ → Figures
-figuresAt clearance start left tail accepted =
+-- the figures there; those of credit and level are foreign to a continuous stream, and zero, and no lot gives it a label
+unfoldable pub figuresAt : ℕ → ℕ → ℕ → ℕ → Figures
+figuresAt clearance left tail accepted =
     record {
-      credit = start .credit;
-      level = start .level;
+      credit = record { 0 = 0 };
+      level = noLevel;
       continuous = stateOf clearance left tail;
       accepted = accepted;
-      newest = start .newest;
+      newest = noLabel;
     }
 
 -- what is left and the tail can be so together
@@ -63,12 +64,11 @@ unfoldable pub nowhere : Place
 nowhere = record { stands = false; left = 0; tail = 0; accepted = 0 }
 
 -- what a place says of a record that was entered after figures f
-unfoldable pub reached : ℕ → Figures → Figures → Place → Entered
-reached clearance start f x = enteredIf (x .stands) (figuresAt clearance start (x .left) (x .tail) (x .accepted)) f
+unfoldable pub reached : ℕ → Figures → Place → Entered
+reached clearance f x = enteredIf (x .stands) (figuresAt clearance (x .left) (x .tail) (x .accepted)) f
 
--- the place x says what entering the record gives, whatever the other figures are
+-- the place x says what entering the record gives, wherever it is
 pub record Reaches (p : Plan) (left tail accepted : ℕ) (r : Record) (x : Place) : Type 0 where
   pub placed : Placed p (x .left) (x .tail)
-  pub says : (start : Figures) (i : ℕ) → isDiscontinued start ≡ false → i < mostRecords
-      → entered p (figuresAt (p .a) start left tail accepted) i r
-      ≡ reached (p .a) start (figuresAt (p .a) start left tail accepted) x
+  pub says : (i : ℕ) → i < mostRecords
+      → entered p (figuresAt (p .a) left tail accepted) i r ≡ reached (p .a) (figuresAt (p .a) left tail accepted) x

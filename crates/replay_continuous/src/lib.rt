@@ -1,7 +1,7 @@
 // The replay of a continuous stream's records: paper 01, "Continuous".
 //
 // It does not carry the state as the area has it. One number, left, is what is still to be screened until clearance, i - c, and 0
-// in sampling, where no run fits: so one comparison decides a run, and what changes stays in three registers.
+// in sampling: so it says the phase and which run fits, and what changes stays in three registers.
 ghost use mathlib.Core.Path.{_≡_};
 ghost use mathlib.Core.Bool.{not, _&&_};
 ghost use Prim.Native.Nat.{_≤_};
@@ -10,9 +10,12 @@ ghost use Rattle.model.specs.Stations.{within as isWithin};
 ghost use Rattle.replaying.specs.Replaying.{oneNumber, Ready, Replayed};
 ghost use Rattle.replay_continuous.specs.Places.{leftOf, stateOf, figuresAt, stoodAt, nowhere, Known, HeadRead, Reaches};
 use model::Figures;
+use model::NO_LABEL;
 use model::Plan;
 use plans::continuous;
 use plans::continuous::Continuous;
+use plans::credit::Credit;
+use plans::level::LevelState;
 use plans::stops;
 use records::Record;
 use replaying::Entered;
@@ -51,11 +54,11 @@ pub fn replay(area: &[u8], plan: Plan, figures: Figures, from: usize, to: usize)
     }
     Entered {
         sound: true,
-        figures: figures_at(plan.a, figures, left, tail, accepted),
+        figures: figures_at(plan.a, left, tail, accepted),
     }
 }
 
-// Enters a record. A run is looked for first and needs no test of the phase: none fits where nothing is left.
+// Enters a record. The phase is looked at first, so that a block's head is not compared with a run's.
 fn enter(plan: Plan, left: u32, tail: u32, accepted: u64, read: Record) -> Place
     requires { ⌜ Known plan left tail accepted ⌝ }
     ensures { λ r. ⌜ Reaches plan left tail accepted read r ⌝ }
@@ -64,6 +67,9 @@ fn enter(plan: Plan, left: u32, tail: u32, accepted: u64, read: Record) -> Place
         return fail();
     }
     let head = replaying::head_of(read);
+    if left == 0 {
+        return enter_sampling(plan, tail, accepted, head, read);
+    }
     if head == replaying::RUN {
         let right = read.a;
         if plan::within(1, left, right) {
@@ -71,13 +77,11 @@ fn enter(plan: Plan, left: u32, tail: u32, accepted: u64, read: Record) -> Place
         }
         return fail();
     }
-    if left == 0 {
-        return enter_sampling(plan, tail, accepted, head, read);
-    }
     enter_screening(plan, left, tail, accepted, head, read)
 }
 
-// Enters a record in screening that is no run of right detections alone.
+// Enters a record in screening that is no run of right detections alone. Its number is looked at before its head, so that the
+// compiler keeps this order. A wrong run that does not fit is no stop either.
 fn enter_screening(
     plan: Plan,
     left: u32,
@@ -89,12 +93,11 @@ fn enter_screening(
     requires { ⌜ Known plan left tail accepted × HeadRead head read × (1 ≤ left) × (head ≡ 2 → ⊥) ⌝ }
     ensures { λ r. ⌜ Reaches plan left tail accepted read r ⌝ }
 {
-    if head == replaying::RUN_WRONG {
-        let right = read.a;
-        if right < left {
+    let right = read.a;
+    if right < left {
+        if head == replaying::RUN_WRONG {
             return stand(plan.a, tail, accepted + right as u64);
         }
-        return fail();
     }
     if replaying::is_stop(head, read) {
         if head == replaying::CHANGE {
@@ -142,14 +145,11 @@ fn is_wrong_block(interval: u32, head: u32, heard: u32) -> bool
     false
 }
 
-// Whether a record has a second, third or fourth number. The second and third are compared at once, as one of 64 bits.
+// Whether a record has a second, third or fourth number. The three are put together first, so that one comparison tells.
 fn has_more(read: Record) -> bool
     ensures { λ r. ⌜ r ≡ not (oneNumber read) ⌝ }
 {
-    if read.b as u64 + read.c as u64 * 4294967296 != 0 {
-        return true;
-    }
-    read.d != 0
+    (read.b as u64 + read.c as u64 * 4294967296) | read.d as u64 != 0
 }
 
 // The place after a record that stands.
@@ -202,19 +202,23 @@ fn state_of(clearance: u32, left: u32, tail: u32) -> Continuous
     Continuous::screen(clearance - left)
 }
 
-// Figures at another place: credit, level and label are those of the start.
-fn figures_at(clearance: u32, start: Figures, left: u32, tail: u32, accepted: u64) -> Figures
+// The figures of that state. Credit, level and label are foreign to a continuous stream, so they are written here: nothing that
+// stays the same has to be handed in and out.
+fn figures_at(clearance: u32, left: u32, tail: u32, accepted: u64) -> Figures
     requires { ⌜ (left ≤ clearance) × (tail ≤ 200) ⌝ }
-    ensures { λ r. ⌜ r ≡ figuresAt clearance start left tail accepted ⌝ }
+    ensures { λ r. ⌜ r ≡ figuresAt clearance left tail accepted ⌝ }
 {
-    let credit = start.credit;
-    let level = start.level;
     let continuous = state_of(clearance, left, tail);
     Figures {
-        credit,
-        level,
+        credit: Credit(0),
+        level: LevelState {
+            level: 0,
+            row: 0,
+            judged: 0,
+            window: 0,
+        },
         continuous,
         accepted,
-        newest: start.newest,
+        newest: NO_LABEL,
     }
 }

@@ -21,11 +21,20 @@ returns c =
 head-of-requires : tie.Need-head-of-requires
 head-of-requires c κs = search needs
 
+enter-sampling-requires : tie.Need-enter-sampling-requires
+enter-sampling-requires c κs =
+    let start = c .before .before .before .before in let r = start .args .read in
+    let headed = headed-by (c .before .head-of .result) r (c .before .head-of .ensures) (c .before .before .before .has-more .result) (c .before .before .before .has-more .ensures) (c .before .before .if1 .left) in
+    (rw (c .if2 .taken) at (start .pre), headed)
+
+returns-2 : tie.Need-returns-2
+returns-2 c = rw (c .before .if2 .taken) (c .enter-sampling .ensures)
+
 within-requires : tie.Need-within-requires
 within-requires c κs = search needs
 
 sub-stand : tie.Need-sub-stand
-sub-stand c = within-of 1 _ _ (sym (c .before .within .ensures) ∙ c .if3 .taken) .1
+sub-stand c = within-of _ _ _ (sym (c .before .within .ensures) ∙ c .if4 .taken) .1
 
 cast-stand : tie.Need-cast-stand
 cast-stand c = search needs
@@ -36,35 +45,26 @@ add-stand c = search needs
 stand-requires : tie.Need-stand-requires
 stand-requires c κs = search needs
 
-returns-2 : tie.Need-returns-2
-returns-2 c =
-    let start = c .before .before .before .before .before .before .before in let p = start .args .plan in let l = start .args .left in let t = start .args .tail in let a = start .args .accepted in let r = start .args .read in
-    let headed = headed-by (c .before .before .before .before .head-of .result) r (c .before .before .before .before .head-of .ensures) (c .before .before .before .before .before .before .has-more .result) (c .before .before .before .before .before .before .has-more .ensures) (c .before .before .before .before .before .if1 .left) in
-    rw (c .stand .ensures) (right-run p l t a r (start .pre) _ headed (c .before .before .before .if2 .taken) (sym (c .before .before .within .ensures) ∙ c .before .if3 .taken))
+returns-3 : tie.Need-returns-3
+returns-3 c =
+    let start = c .before .before .before .before .before .before .before .before in let p = start .args .plan in let l = start .args .left in let t = start .args .tail in let a = start .args .accepted in let r = start .args .read in
+    let headed = headed-by (c .before .before .before .before .before .head-of .result) r (c .before .before .before .before .before .head-of .ensures) (c .before .before .before .before .before .before .before .has-more .result) (c .before .before .before .before .before .before .before .has-more .ensures) (c .before .before .before .before .before .before .if1 .left) in
+    rw (c .stand .ensures) (right-run p l t a r (start .pre) _ headed (c .before .before .before .if3 .taken) (sym (c .before .before .within .ensures) ∙ c .before .if4 .taken))
 
 fail-requires-2 : tie.Need-fail-requires-2
 fail-requires-2 c κs = search needs
 
-returns-3 : tie.Need-returns-3
-returns-3 c =
-    let start = c .before .before .before .before .before .before .before in let p = start .args .plan in let l = start .args .left in let t = start .args .tail in let a = start .args .accepted in let r = start .args .read in
-    let headed = headed-by (c .before .before .before .before .head-of .result) r (c .before .before .before .before .head-of .ensures) (c .before .before .before .before .before .before .has-more .result) (c .before .before .before .before .before .before .has-more .ensures) (c .before .before .before .before .before .if1 .left) in
-    rw (c .fail2 .ensures) (right-run-falls p l t a r (start .pre) _ headed (c .before .before .before .if2 .taken) (sym (c .before .before .within .ensures) ∙ c .before .if3 .left))
-
-enter-sampling-requires : tie.Need-enter-sampling-requires
-enter-sampling-requires c κs =
-    let start = c .before .before .before .before .before in let p = start .args .plan in let l = start .args .left in let t = start .args .tail in let a = start .args .accepted in let r = start .args .read in
-    let headed = headed-by (c .before .before .head-of .result) r (c .before .before .head-of .ensures) (c .before .before .before .before .has-more .result) (c .before .before .before .before .has-more .ensures) (c .before .before .before .if1 .left) in
-    (rw (c .if4 .taken) at (start .pre), headed)
-
 returns-4 : tie.Need-returns-4
-returns-4 c = rw (c .before .if4 .taken) (c .enter-sampling .ensures)
+returns-4 c =
+    let start = c .before .before .before .before .before .before .before .before in let p = start .args .plan in let l = start .args .left in let t = start .args .tail in let a = start .args .accepted in let r = start .args .read in
+    let headed = headed-by (c .before .before .before .before .before .head-of .result) r (c .before .before .before .before .before .head-of .ensures) (c .before .before .before .before .before .before .before .has-more .result) (c .before .before .before .before .before .before .before .has-more .ensures) (c .before .before .before .before .before .before .if1 .left) in
+    rw (c .fail2 .ensures) (right-run-falls p l t a r (start .pre) _ headed (c .before .before .before .if3 .taken) (sym (c .before .before .within .ensures) ∙ c .before .if4 .left))
 
 enter-screening-requires : tie.Need-enter-screening-requires
 enter-screening-requires c κs =
-    let start = c .before .before .before .before .before in let p = start .args .plan in let l = start .args .left in let t = start .args .tail in let a = start .args .accepted in let r = start .args .read in
+    let start = c .before .before .before .before .before in let r = start .args .read in
     let headed = headed-by (c .before .before .head-of .result) r (c .before .before .head-of .ensures) (c .before .before .before .before .has-more .result) (c .before .before .before .before .has-more .ensures) (c .before .before .before .if1 .left) in
-    (start .pre, headed, omega arith, c .before .if2 .left)
+    (start .pre, headed, omega arith, c .if3 .left)
 
 returns-5 : tie.Need-returns-5
 returns-5 c = search needs
@@ -77,15 +77,15 @@ enter-spec =
     fail-requires
     returns
     head-of-requires
+    enter-sampling-requires
+    returns-2
     within-requires
     sub-stand
     cast-stand
     add-stand
     stand-requires
-    returns-2
-    fail-requires-2
     returns-3
-    enter-sampling-requires
+    fail-requires-2
     returns-4
     enter-screening-requires
     returns-5)

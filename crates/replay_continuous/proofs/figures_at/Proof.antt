@@ -1,4 +1,5 @@
 use borrow.Author.Needs.{needs}
+use Rattle.model.specs.Figuring.{noLevel}
 use Rattle.replay_continuous.specs.Places.{figuresAt}
 use Rattle.replay_continuous.proofs.figures_at.Statement.{statement}
 use Rattle.replay_continuous.proofs.figures_at.Tie as tie
@@ -7,7 +8,7 @@ state-of-requires : tie.Need-state-of-requires
 state-of-requires c κs = search needs
 
 returns : tie.Need-returns
-unfolding figuresAt
+unfolding figuresAt noLevel
 returns c = rw (c .state-of .ensures)
 
 pub figures-at-spec : {M : Type 1} → statement M
