@@ -5,6 +5,7 @@ ghost use lib.ListN.{length};
 ghost use Rattle.little.specs.Little.{bytes, written};
 ghost use Rattle.model.specs.declared.Call.the-variants.{Open, Enter, Back, Ask, Read};
 ghost use Rattle.model.specs.Sizes.{areaLength, recordLength, headerLength, mostRecords};
+ghost use Rattle.model.specs.Calls.{refused as refusedBy};
 ghost use Rattle.model.specs.Area.{zeros, figureBytes, recordOf, onArea};
 ghost use Rattle.records.specs.Records.{countStart, figuresStart, LevelFits};
 ghost use Rattle.listening.specs.Written.{rewritten, FlagFits};
@@ -18,24 +19,24 @@ use rules::plan;
 use rules::refusing;
 use rules::stepping;
 
-// Opens the stream.
-pub fn open(area: &mut [u8], plan: Plan) -> Answer
+// Opens the stream. Open gives nothing, so that its refusal, or 0, is all of its answer.
+pub fn open(area: &mut [u8], plan: Plan) -> u32
     requires { ⌜ length (now area) ≡ areaLength ⌝ }
-    ensures { λ r. ⌜ record { answer = r; area = now (area .exit) } ≡ onArea (now (area .entry)) (Open plan) ⌝ }
+    ensures { λ r. ⌜ record { answer = refusedBy r; area = now (area .exit) } ≡ onArea (now (area .entry)) (Open plan) ⌝ }
 {
     let standing = replay::read(area, 0);
     if !standing.sound {
-        return answering::refused(3);
+        return 3;
     }
     if standing.opened {
-        return answering::refused(4);
+        return 4;
     }
     if !plan::is_valid(plan) {
-        return answering::refused(5);
+        return 5;
     }
     records::put_plan(area, plan);
     records::put_figures(area, plan::started(plan));
-    answering::gives(0, 0, 0)
+    0
 }
 
 // Enters a lot, run, block or stop.

@@ -9,6 +9,7 @@ ghost use Rattle.model.specs.declared.Entry.the-variants.{Lot, Run, Block, Stop
 ghost use Rattle.model.specs.declared.Call.the-variants.{Open, Enter, Back, Ask, Read};
 ghost use Prim.Native.Nat.{_<_};
 ghost use Rattle.model.specs.Sizes.{streams, startOf};
+ghost use Rattle.model.specs.Calls.{refused as refusedBy};
 ghost use Rattle.model.specs.Store.{onStore};
 ghost use Rattle.model.specs.Claims.{on};
 ghost use Rattle.listening.specs.Written.{planOf};
@@ -27,13 +28,7 @@ use words::Words;
 pub fn open(store: &mut [u8], stream: u32, kind: u32, option: u32, a: u32, b: u32) -> Answer
     ensures { λ r. ⌜ record { answer = r; store = now (store .exit) } ≡ onStore (now (store .entry)) (on stream (Open (planOf kind option a b))) ⌝ }
 {
-    let refusal = refusal_of(store.len(), stream);
-    if refusal != 0 {
-        return answering::refused(refusal);
-    }
-    let start = start_of(stream);
-    let end = start + sizes::AREA_LENGTH;
-    area::open(&mut store[start..end], Plan { kind, option, a, b })
+    answering::refused(open_as(store, stream, Plan { kind, option, a, b }))
 }
 
 // Enters a lot.
@@ -126,12 +121,25 @@ pub fn make(store: &mut [u8], stream: u32, call: Call) -> Answer
     ensures { λ r. ⌜ record { answer = r; store = now (store .exit) } ≡ onStore (now (store .entry)) (on stream call) ⌝ }
 {
     match call {
-        Call::Open(plan) => open(store, stream, plan.kind, plan.option, plan.a, plan.b),
+        Call::Open(plan) => answering::refused(open_as(store, stream, plan)),
         Call::Enter(entry) => words::unpacked(enter_packed(store, stream, entry)),
         Call::Back => back(store, stream),
         Call::Ask(size) => ask(store, stream, size),
         Call::Read => read(store, stream),
     }
+}
+
+// Opens a stream: gives the refusal, or 0.
+fn open_as(store: &mut [u8], stream: u32, plan: Plan) -> u32
+    ensures { λ r. ⌜ record { answer = refusedBy r; store = now (store .exit) } ≡ onStore (now (store .entry)) (on stream (Open plan)) ⌝ }
+{
+    let refusal = refusal_of(store.len(), stream);
+    if refusal != 0 {
+        return refusal;
+    }
+    let start = start_of(stream);
+    let end = start + sizes::AREA_LENGTH;
+    area::open(&mut store[start..end], plan)
 }
 
 // Enters anything, for five callers: compiled as a function of its own, it hands its answer over in memory, and so in words.

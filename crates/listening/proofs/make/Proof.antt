@@ -5,8 +5,11 @@ use Rattle.listening.proofs.make.Tie as tie
 enum-known-call : tie.Need-enum-known-call
 enum-known-call c = search needs
 
-open-requires : tie.Need-open-requires
-open-requires c κs = search needs
+open-as-requires : tie.Need-open-as-requires
+open-as-requires c κs = search needs
+
+refused-requires : tie.Need-refused-requires
+refused-requires c κs = search needs
 
 enum-known-call-2 : tie.Need-enum-known-call-2
 enum-known-call-2 c = search needs
@@ -70,7 +73,8 @@ make-spec =
     tie.close
     (tie.spec
     enum-known-call
-    open-requires
+    open-as-requires
+    refused-requires
     enum-known-call-2
     enter-packed-requires
     unpacked-requires
