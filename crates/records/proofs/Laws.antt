@@ -74,8 +74,8 @@ pub record-at : (area : List ℕ) (i : ℕ) → i < mostRecords → recordAt are
 unfolding recordAt
 record-at area i h = part-part headerLength (recordLength * mostRecords) (recordLength * i) recordLength area (omega arith)
 
--- and the numbers in it, each where it stands in the area
-pub record-read : (area : List ℕ) (at i : ℕ) → at ≡ headerLength + recordLength * i → i < mostRecords → recordIn (recordAt area i) ≡ record {
+-- the numbers in a record, each where it stands in the area
+pub record-read : (area : List ℕ) (at : ℕ) → recordIn (part at recordLength area) ≡ record {
   kind = getD area at 0;
   flag = getD area (at + 1) 0;
   spare = value (part (at + 2) 2 area);
@@ -85,10 +85,8 @@ pub record-read : (area : List ℕ) (at i : ℕ) → at ≡ headerLength + recor
   d = value (part (at + 16) 4 area);
 }
 unfolding recordIn
-record-read area at i e h =
+record-read area at =
     rw (
-      record-at area i h,
-      ← e,
       getD-part at recordLength area 0 (lit< tt),
       add-zero,
       getD-part at recordLength area 1 (lit< tt),

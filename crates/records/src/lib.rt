@@ -38,7 +38,14 @@ pub fn get_record(area: &[u8], i: usize) -> Record
     requires { ⌜ (length (now area) ≡ areaLength) × (i < mostRecords) ⌝ }
     ensures { λ r. ⌜ r ≡ recordIn (recordAt (now (area .entry)) i) ⌝ }
 {
-    let at = HEADER_LENGTH + RECORD_LENGTH * i;
+    get_record_at(area, HEADER_LENGTH + RECORD_LENGTH * i)
+}
+
+// The record at an offset, for who counts in bytes.
+pub fn get_record_at(area: &[u8], at: usize) -> Record
+    requires { ⌜ at + recordLength ≤ length (now area) ⌝ }
+    ensures { λ r. ⌜ r ≡ recordIn (part at recordLength (now (area .entry))) ⌝ }
+{
     Record {
         kind: area[at],
         flag: area[at + 1],

@@ -2,3 +2,4 @@
 pub mod Lots
 pub mod Steps
 pub mod Turning
+pub mod Passing

@@ -17,6 +17,7 @@ use Rattle.replaying.specs.LotStreams.{mayFollow}
 use Rattle.replaying.proofs.LotStreams.{none-wrong}
 use Rattle.replay_credit.specs.declared.Carried.{Carried}
 use Rattle.replay_credit.specs.declared.Step.the-variants.{Stands, Fails}
+use Rattle.replay_credit.specs.Passing.{isGoodLot}
 use Rattle.replay_credit.specs.Carrying.{verdictIn, countsFit, afterLot, lotStep, stopStep, stepOf}
 
 -- the range of all that was found wrong, by the verdict v on a lot of N with d wrong in a sample of n: the rule's last two parts
@@ -62,6 +63,14 @@ module _ (p : Plan) (s : Carried) (r : Record) where
     pub good-lot : mayFollow 1 (s .newest) r ≡ true
         → Stands (record { credit = s .credit + r .b; accepted = s .accepted + r .b; newest = r .a }) ≡ lotStep p s r
     good-lot e = ap Stands after-good ∙ lot-stands e good-counts
+
+  pub good-step : isGoodLot (s .newest) r ≡ true
+      → Stands (record { credit = s .credit + r .b; accepted = s .accepted + r .b; newest = r .a }) ≡ stepOf p s r
+  unfolding isGoodLot
+  good-step e =
+      let all = both-true (eqb (headOf r) 1 && noneWrong r) (mayFollow 1 (s .newest) r) e in
+      let lot = both-true (eqb (headOf r) 1) (noneWrong r) (all .0) in
+      good-lot (lot .1) (all .1) ∙ lot-step (eqb-true (headOf r) 1 (lot .0))
 
   -- nothing wrong in the sample, something in all that was heard
   pub missed : r .c ≡ 0 → noneWrong r ≡ false → countsFit p s r ≡ false

@@ -1,2 +1,3 @@
 -- What the contracts of this crate cite: the replay of a credit stream in three numbers.
 pub mod Carrying
+pub mod Passing

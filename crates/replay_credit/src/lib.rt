@@ -2,10 +2,11 @@
 // the loop keeps them in registers; `specs/Carrying.antt` has the figures that they stand for.
 ghost use mathlib.Core.Path.{_≡_};
 ghost use mathlib.Core.Bool.{false, true};
-ghost use Prim.Native.Nat.{_<_};
+ghost use Prim.Native.Nat.{_+_, _≤_};
 ghost use lib.ListN.{length};
-ghost use Rattle.model.specs.Sizes.{areaLength, mostRecords};
-ghost use Rattle.records.specs.Records.{recordIn, recordAt};
+ghost use Rattle.little.specs.Little.{part};
+ghost use Rattle.model.specs.Sizes.{recordLength};
+ghost use Rattle.records.specs.Records.{recordIn};
 ghost use Rattle.replaying.specs.Replaying.{Ready, Replayed, noneWrong};
 ghost use Rattle.replaying.specs.LotStreams.{mayFollow};
 ghost use Rattle.replay_credit.specs.Carrying.{
@@ -16,8 +17,10 @@ ghost use Rattle.replay_credit.specs.Carrying.{
   stepOf,
   Bounded,
 };
+ghost use Rattle.replay_credit.specs.Passing.{isGoodLot, passedOver, SumFits, SomeReady, PassedGood};
 use model::Figures;
 use model::Plan;
+use model::sizes;
 use plans::LotSize;
 use plans::continuous::Continuous;
 use plans::credit::Credit;
@@ -36,33 +39,95 @@ struct Carried {
     newest: u64,
 }
 
+// What is carried past some good lots, and the offset of the record behind them.
+struct Passed {
+    carried: Carried,
+    next: usize,
+}
+
 // A record stands, and leaves these numbers; or it could not stand.
 enum Step {
     Stands(Carried),
     Fails,
 }
 
-// The figures after more of the records of a credit stream, and whether each of these could stand.
+// The figures after more of the records of a credit stream, and whether each of these could stand. It goes by offset: one number is
+// counted and addressed with. Good lots are passed in a loop of their own, which keeps and tests less; the others are entered.
 pub fn replay(area: &[u8], plan: Plan, figures: Figures, from: usize, to: usize) -> Entered
     requires { ⌜ Ready plan (now area) figures from to × (plan .kind ≡ 1) ⌝ }
     ensures { λ r. ⌜ Replayed plan (now (area .entry)) to r ⌝ }
 {
-    let mut carried = carried_from(figures);
-    let mut i = from;
-    while i < to {
-        let Step::Stands(next) = enter(area, plan, carried, i) else {
+    let end = sizes::HEADER_LENGTH + sizes::RECORD_LENGTH * to;
+    let mut passed = pass_good_lots(
+        area,
+        carried_from(figures),
+        sizes::HEADER_LENGTH + sizes::RECORD_LENGTH * from,
+        end,
+    );
+    while passed.next < end {
+        let Step::Stands(next) = enter(area, plan, passed.carried, passed.next) else {
             return Entered {
                 sound: false,
-                figures: figures_of(carried),
+                figures: figures_of(passed.carried),
             };
         };
-        carried = next;
-        i += 1;
+        passed = pass_good_lots(area, next, passed.next + sizes::RECORD_LENGTH, end);
     }
     Entered {
         sound: true,
-        figures: figures_of(carried),
+        figures: figures_of(passed.carried),
     }
+}
+
+// Passes the good lots from an offset on, up to the first record that is none, or to the end. A good lot adds its size to the credit and
+// to what is accepted alike, whatever the plan: so one sum is kept for both.
+fn pass_good_lots(area: &[u8], carried: Carried, from: usize, to: usize) -> Passed
+    requires { ⌜ SomeReady (now area) carried from to ⌝ }
+    ensures { λ r. ⌜ PassedGood (now (area .entry)) carried from to r ⌝ }
+{
+    let mut newest = carried.newest;
+    let mut sum: u64 = 0;
+    let mut at = from;
+    while at < to {
+        if !is_good_lot(area, newest, at) {
+            return passed_over(carried, sum, newest, at);
+        }
+        let read = records::get_record_at(area, at);
+        sum += read.b as u64;
+        newest = read.a as u64;
+        at += sizes::RECORD_LENGTH;
+    }
+    passed_over(carried, sum, newest, at)
+}
+
+// Good lots were passed: the sum of their sizes, the newest one's label, and where the next record stands.
+fn passed_over(carried: Carried, sum: u64, newest: u64, next: usize) -> Passed
+    requires { ⌜ SumFits carried sum ⌝ }
+    ensures { λ r. ⌜ r ≡ passedOver carried sum newest next ⌝ }
+{
+    Passed {
+        carried: Carried {
+            credit: carried.credit + sum as u32,
+            accepted: carried.accepted + sum,
+            newest,
+        },
+        next,
+    }
+}
+
+// Is the record at an offset a good lot? Its head has to be a lot's, and what is wrong in the sample and in all zero: no bit is set where
+// all three are so, so that one branch tells.
+fn is_good_lot(area: &[u8], newest: u64, at: usize) -> bool
+    requires { ⌜ at + recordLength ≤ length (now area) ⌝ }
+    ensures { λ r. ⌜ r ≡ isGoodLot newest (recordIn (part at recordLength (now (area .entry)))) ⌝ }
+{
+    if (replaying::head_at(area, at) as u64 ^ replaying::LOT as u64)
+        | little::get_u64(area, at + 12)
+        != 0
+    {
+        return false;
+    }
+    may_follow(newest, records::get_record_at(area, at))
 }
 
 fn carried_from(figures: Figures) -> Carried
@@ -94,19 +159,19 @@ fn figures_of(carried: Carried) -> Figures
     }
 }
 
-// Enters the i-th record. Each branch reads the record for itself: so compiled, it loads the numbers that it looks at, and no more.
-fn enter(area: &[u8], plan: Plan, carried: Carried, i: usize) -> Step
-    requires { ⌜ (length (now area) ≡ areaLength) × (i < mostRecords) × Bounded plan carried ⌝ }
-    ensures { λ r. ⌜ r ≡ stepOf plan carried (recordIn (recordAt (now (area .entry)) i)) ⌝ }
+// Enters the record at an offset. Each branch reads the record for itself: so compiled, it loads the numbers that it looks at, and no more.
+fn enter(area: &[u8], plan: Plan, carried: Carried, at: usize) -> Step
+    requires { ⌜ (at + recordLength ≤ length (now area)) × Bounded plan carried ⌝ }
+    ensures { λ r. ⌜ r ≡ stepOf plan carried (recordIn (part at recordLength (now (area .entry)))) ⌝ }
 {
-    if replaying::head_at(area, i) != replaying::LOT {
-        return enter_stop(area, carried, i);
+    if replaying::head_at(area, at) != replaying::LOT {
+        return enter_stop(area, carried, at);
     }
-    let read = records::get_record(area, i);
-    if !may_follow(carried, read) {
+    let read = records::get_record_at(area, at);
+    if !may_follow(carried.newest, read) {
         return Step::Fails;
     }
-    if !replaying::has_none_wrong(area, i) {
+    if !replaying::has_none_wrong(area, at) {
         return enter_wrong_lot(plan, carried, read);
     }
     Step::Stands(Carried {
@@ -117,11 +182,11 @@ fn enter(area: &[u8], plan: Plan, carried: Carried, i: usize) -> Step
 }
 
 // Paper 01, "Calls", Stop: on credit streams it is entered without effect.
-fn enter_stop(area: &[u8], carried: Carried, i: usize) -> Step
-    requires { ⌜ (length (now area) ≡ areaLength) × (i < mostRecords) ⌝ }
-    ensures { λ r. ⌜ r ≡ stopStep carried (recordIn (recordAt (now (area .entry)) i)) ⌝ }
+fn enter_stop(area: &[u8], carried: Carried, at: usize) -> Step
+    requires { ⌜ at + recordLength ≤ length (now area) ⌝ }
+    ensures { λ r. ⌜ r ≡ stopStep carried (recordIn (part at recordLength (now (area .entry)))) ⌝ }
 {
-    let read = records::get_record(area, i);
+    let read = records::get_record_at(area, at);
     if replaying::is_stop(replaying::head_of(read), read) {
         return Step::Stands(carried);
     }
@@ -129,10 +194,10 @@ fn enter_stop(area: &[u8], carried: Carried, i: usize) -> Step
 }
 
 // What refusals 10 and 11 leave: a label other than the newest lot's, and a size in range.
-fn may_follow(carried: Carried, read: Record) -> bool
-    ensures { λ r. ⌜ r ≡ mayFollow 1 (carried .newest) read ⌝ }
+fn may_follow(newest: u64, read: Record) -> bool
+    ensures { λ r. ⌜ r ≡ mayFollow 1 newest read ⌝ }
 {
-    if read.a as u64 == carried.newest {
+    if read.a as u64 == newest {
         return false;
     }
     plan::within(1, limits::LARGEST_LOT, read.b)

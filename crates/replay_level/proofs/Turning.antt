@@ -49,8 +49,8 @@ module _ (p : Plan) (kind : p .kind ≡ 2) (area : List ℕ) (bytes : AreBytes a
     entered-step =
         let room : i < 128 = omega arith in
         sym (
-        step-entered p kind s (recordIn (recordAt area i)) i room (kind-byte area i (ready .whole) bytes room)
-        (flag-byte area i (ready .whole) bytes room)
+        step-entered p kind s (recordIn (recordAt area i)) i room (kind-byte area i bytes room)
+        (flag-byte area i bytes room)
         )
 
     pub turned : (next : Carried) → Stands next ≡ stepOf p s (recordIn (recordAt area i)) → Ready p area (figuresIn next) (i + 1) to

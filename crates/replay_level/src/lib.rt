@@ -19,6 +19,7 @@ ghost use Rattle.replay_level.specs.Carrying.{
 };
 use model::Figures;
 use model::Plan;
+use model::sizes;
 use plans::LotSize;
 use plans::continuous::Continuous;
 use plans::credit::Credit;
@@ -100,14 +101,15 @@ fn enter(area: &[u8], plan: Plan, carried: Carried, i: usize) -> Step
     if state.level == level::DISCONTINUED {
         return Step::Fails;
     }
-    if replaying::head_at(area, i) != replaying::LOT {
+    let at = sizes::HEADER_LENGTH + sizes::RECORD_LENGTH * i;
+    if replaying::head_at(area, at) != replaying::LOT {
         return enter_stop(area, carried, i);
     }
     let read = records::get_record(area, i);
     if !may_follow(carried, read) {
         return Step::Fails;
     }
-    if !replaying::has_none_wrong(area, i) {
+    if !replaying::has_none_wrong(area, at) {
         return enter_wrong_lot(plan, carried, read);
     }
     let after = state.judge(plan.option == 1, false);

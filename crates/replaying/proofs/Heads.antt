@@ -1,5 +1,5 @@
 -- A record's first four bytes as one number, and the stops among the records. Assumes nothing.
-use Prim.Native.Nat.{ℕ, _+_, _*_, _<_}
+use Prim.Native.Nat.{ℕ, _+_, _*_, _≤_, _<_}
 use mathlib.Core.Path.{_≡_, refl, sym, _∙_}
 use mathlib.Core.Bool.{Bool, true, false, _&&_}
 use mathlib.Core.List.{List}
@@ -8,11 +8,11 @@ use lib.Dec.{eqb, leb}
 use lib.ListN.{length}
 use borrow.Author.Tests.{eqb-true, eqb-false, eq-eqb, ne-eqb}
 use Rattle.little.specs.Little.{value, part, AreBytes}
-use Rattle.little.proofs.Laws.{value-eight}
-use Rattle.model.specs.Sizes.{recordLength, headerLength, mostRecords, areaLength}
+use Rattle.little.proofs.Laws.{value-two, value-four, value-eight}
+use Rattle.model.specs.Sizes.{recordLength, headerLength, mostRecords}
 use Rattle.records.specs.declared.Record.{Record}
 use Rattle.records.specs.Records.{recordIn, recordAt}
-use Rattle.records.proofs.Laws.{record-read}
+use Rattle.records.proofs.Laws.{record-at, record-read}
 use Rattle.replaying.specs.Replaying.{headOf, isStop, noneWrong}
 
 -- the head says kind, flag and the two zero bytes
@@ -61,18 +61,25 @@ both-zero c d = go (eqb c 0) (eqb d 0) refl refl
     go true false e g = ne-eqb (c + d * 4294967296) 0 (λ z. eqb-false d 0 g (omega arith))
     go false y e g = ne-eqb (c + d * 4294967296) 0 (λ z. eqb-false c 0 e (omega arith))
 
-pub none-wrong-read : (area : List ℕ) (at i : ℕ) → at ≡ headerLength + recordLength * i → length area ≡ areaLength → i < mostRecords
-    → eqb (value (part (at + 12) 8 area)) 0 ≡ noneWrong (recordIn (recordAt area i))
-unfolding noneWrong
-none-wrong-read area at i e whole room =
-    let next : at + 12 + 4 ≡ at + 16 = omega arith in
-    rw (record-read area at i e room, ← value-eight (at + 12) area (omega arith), next)
-    (both-zero (value (part (at + 12) 4 area)) (value (part (at + 16) 4 area)))
+-- a record's head, and whether nothing is wrong in a lot, each in one load
+module _ (area : List ℕ) (at : ℕ) (fits : at + recordLength ≤ length area) where
+  pub head-read : value (part at 4 area) ≡ headOf (recordIn (part at recordLength area))
+  unfolding headOf
+  head-read =
+      let third : at + 2 + 1 ≡ at + 3 = omega arith in
+      rw (record-read area at, ← value-four at area (omega arith), ← value-two (at + 2) area (omega arith), third) (omega arith)
+
+  pub none-wrong-read : eqb (value (part (at + 12) 8 area)) 0 ≡ noneWrong (recordIn (part at recordLength area))
+  unfolding noneWrong
+  none-wrong-read =
+      let next : at + 12 + 4 ≡ at + 16 = omega arith in
+      rw (record-read area at, ← value-eight (at + 12) area (omega arith), next)
+      (both-zero (value (part (at + 12) 4 area)) (value (part (at + 16) 4 area)))
 
 -- a record's first two bytes are below 256
-module _ (area : List ℕ) (i : ℕ) (whole : length area ≡ areaLength) (bytes : AreBytes area) (room : i < 128) where
+module _ (area : List ℕ) (i : ℕ) (bytes : AreBytes area) (room : i < mostRecords) where
   pub kind-byte : recordIn (recordAt area i) .kind < 256
-  kind-byte = rw (record-read area (headerLength + recordLength * i) i refl room) (bytes _)
+  kind-byte = rw (record-at area i room, record-read area (headerLength + recordLength * i)) (bytes _)
 
   pub flag-byte : recordIn (recordAt area i) .flag < 256
-  flag-byte = rw (record-read area (headerLength + recordLength * i) i refl room) (bytes _)
+  flag-byte = rw (record-at area i room, record-read area (headerLength + recordLength * i)) (bytes _)

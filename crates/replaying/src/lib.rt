@@ -1,13 +1,13 @@
 // Reading an area record after record: what each record has to be, and what a replay of them knows. The loops themselves are in a
 // crate for each plan; here are the definitions and laws that they share.
 ghost use mathlib.Core.Path.{_≡_};
-ghost use Prim.Native.Nat.{_<_};
+ghost use Prim.Native.Nat.{_+_, _≤_, _<_};
 ghost use lib.ListN.{length};
-ghost use Rattle.model.specs.Sizes.{areaLength, mostRecords};
-ghost use Rattle.records.specs.Records.{recordIn, recordAt};
+ghost use Rattle.little.specs.Little.{part};
+ghost use Rattle.model.specs.Sizes.{recordLength};
+ghost use Rattle.records.specs.Records.{recordIn};
 ghost use Rattle.replaying.specs.Replaying.{headOf, isStop, noneWrong};
 use model::Figures;
-use model::sizes;
 use plans::limits;
 use records::Record;
 
@@ -63,19 +63,19 @@ pub fn is_stop(head: u32, read: Record) -> bool
     false
 }
 
-// The head of the i-th record, from 0.
-pub fn head_at(area: &[u8], i: usize) -> u32
-    requires { ⌜ (length (now area) ≡ areaLength) × (i < mostRecords) ⌝ }
-    ensures { λ r. ⌜ r ≡ headOf (recordIn (recordAt (now (area .entry)) i)) ⌝ }
+// The head of the record at an offset: one load.
+pub fn head_at(area: &[u8], at: usize) -> u32
+    requires { ⌜ at + recordLength ≤ length (now area) ⌝ }
+    ensures { λ r. ⌜ r ≡ headOf (recordIn (part at recordLength (now (area .entry)))) ⌝ }
 {
-    head_of(records::get_record(area, i))
+    little::get_u32(area, at)
 }
 
-// Is nothing wrong in the sample of the i-th record, a lot's, nor in all that was heard? The two counts are read as one number, so that one comparison tells.
-pub fn has_none_wrong(area: &[u8], i: usize) -> bool
-    requires { ⌜ (length (now area) ≡ areaLength) × (i < mostRecords) ⌝ }
-    ensures { λ r. ⌜ r ≡ noneWrong (recordIn (recordAt (now (area .entry)) i)) ⌝ }
+// Is nothing wrong in the sample of the record at an offset, a lot's, nor in all that was heard? The two counts are read as one number, so
+// that one comparison tells.
+pub fn has_none_wrong(area: &[u8], at: usize) -> bool
+    requires { ⌜ at + recordLength ≤ length (now area) ⌝ }
+    ensures { λ r. ⌜ r ≡ noneWrong (recordIn (part at recordLength (now (area .entry)))) ⌝ }
 {
-    let at = sizes::HEADER_LENGTH + sizes::RECORD_LENGTH * i;
     little::get_u64(area, at + 12) == 0
 }

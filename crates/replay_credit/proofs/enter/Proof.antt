@@ -6,7 +6,9 @@ use mathlib.Core.Bool.{true}
 use native.Mathlib.Omega.{arith}
 use borrow.Author.Needs.{needs}
 use borrow.Author.Tests.{not-true, not-false}
-use Rattle.records.specs.Records.{recordIn, recordAt}
+use Rattle.little.specs.Little.{part}
+use Rattle.model.specs.Sizes.{recordLength}
+use Rattle.records.specs.Records.{recordIn}
 use Rattle.replay_credit.specs.Carrying.{lotStep, stepOf}
 use Rattle.replay_credit.proofs.Lots.{lot-step, stop-step, not-following, good-lot}
 use Rattle.replay_credit.proofs.enter.Statement.{statement}
@@ -23,21 +25,21 @@ returns c =
     let seen = c .before .before in
     c .enter-stop .ensures ∙ stop-step _ _ _ (λ e. c .before .if1 .taken (seen .head-at .ensures ∙ e))
 
-get-record-requires : tie.Need-get-record-requires
-get-record-requires c κs = search needs
+get-record-at-requires : tie.Need-get-record-at-requires
+get-record-at-requires c κs = search needs
 
 may-follow-requires : tie.Need-may-follow-requires
 may-follow-requires c κs = search needs
 
--- the lot that was read is the i-th record's
-of-lot : (c : tie.After-get-record)
-    → lotStep (c .before .before .before .before .args .plan) (c .before .before .before .before .args .carried) (c .get-record .result)
+-- the lot that was read is the record at the offset
+of-lot : (c : tie.After-get-record-at)
+    → lotStep (c .before .before .before .before .args .plan) (c .before .before .before .before .args .carried) (c .get-record-at .result)
     ≡ stepOf (c .before .before .before .before .args .plan) (c .before .before .before .before .args .carried)
-    (recordIn (recordAt (c .before .before .before .before .args .area .now) (c .before .before .before .before .args .i)))
-of-lot c = ap (lotStep _ _) (c .get-record .ensures) ∙ lot-step _ _ _ (sym (c .before .before .head-at .ensures) ∙ c .before .if1 .left)
+    (recordIn (part (c .before .before .before .before .args .at) recordLength (c .before .before .before .before .args .area .now)))
+of-lot c = ap (lotStep _ _) (c .get-record-at .ensures) ∙ lot-step _ _ _ (sym (c .before .before .head-at .ensures) ∙ c .before .if1 .left)
 
 follows : (c : tie.Else2)
-    → mayFollow 1 (c .before .before .before .before .before .before .args .carried .newest) (c .before .before .get-record .result) ≡ true
+    → mayFollow 1 (c .before .before .before .before .before .before .args .carried .newest) (c .before .before .get-record-at .result) ≡ true
 follows c = sym (c .before .may-follow .ensures) ∙ not-false (c .before .may-follow .result) (c .if2 .left)
 
 returns-2 : tie.Need-returns-2
@@ -52,9 +54,9 @@ enter-wrong-lot-requires : tie.Need-enter-wrong-lot-requires
 enter-wrong-lot-requires c κs =
     let tested = c .before in
     let read = tested .before .before .before in (
-      read .before .before .before .before .pre .2,
+      read .before .before .before .before .pre .1,
       follows (tested .before),
-      ap noneWrong (read .get-record .ensures)
+      ap noneWrong (read .get-record-at .ensures)
           ∙ sym (tested .has-none-wrong .ensures)
           ∙ not-true (tested .has-none-wrong .result) (c .if3 .taken),
     )
@@ -66,7 +68,7 @@ add-t6 : tie.Need-add-t6
 add-t6 c =
     let tested = c .before .before .before in
     let start = tested .before .before .before .before .before .before .before in
-    let size = size-in-range 1 (start .args .carried .newest) (tested .before .before .before .get-record .result) (follows (tested .before)) in
+    let size = size-in-range 1 (start .args .carried .newest) (tested .before .before .before .get-record-at .result) (follows (tested .before)) in
     omega arith
 
 cast-t9 : tie.Need-cast-t9
@@ -83,7 +85,7 @@ returns-4 c =
     let tested = c .before .before .before .before .before .before in
     let read = tested .before .before .before in
     good-lot _ _ _
-    (ap noneWrong (read .get-record .ensures)
+    (ap noneWrong (read .get-record-at .ensures)
     ∙ sym (tested .has-none-wrong .ensures)
     ∙ not-false (tested .has-none-wrong .result) (c .before .before .before .before .before .if3 .left))
     (follows (tested .before))
@@ -96,7 +98,7 @@ enter-spec =
     head-at-requires
     enter-stop-requires
     returns
-    get-record-requires
+    get-record-at-requires
     may-follow-requires
     returns-2
     has-none-wrong-requires

@@ -1,12 +1,15 @@
-use Rattle.replaying.specs.Replaying.{noneWrong}
+use Rattle.replaying.specs.Replaying.{headOf, noneWrong}
 use Rattle.replaying.specs.LotStreams.{mayFollow}
 use Rattle.replaying.proofs.LotStreams.{size-in-range}
 use mathlib.Core.Path.{_≡_, sym, ap, _∙_}
 use mathlib.Core.Bool.{true}
+use mathlib.Core.List.{List}
+use Prim.Native.Nat.{ℕ}
 use native.Mathlib.Omega.{arith}
 use Rattle.model.specs.Stations.{hasOption}
 use borrow.Author.Tests.{not-true, not-false}
 use Rattle.records.specs.Records.{recordIn, recordAt}
+use Rattle.records.proofs.Laws.{record-at}
 use Rattle.replay_level.specs.Carrying.{lotStep, stepOf}
 use Rattle.replay_level.proofs.Lots.{ended-step, lot-step, stop-step, not-following, good-lot}
 use borrow.Author.Needs.{needs}
@@ -16,8 +19,21 @@ use Rattle.replay_level.proofs.enter.Tie as tie
 returns : tie.Need-returns
 returns c = ended-step _ _ _ (c .if1 .taken)
 
+mul-at : tie.Need-mul-at
+mul-at c = search needs
+
+add-at : tie.Need-add-at
+add-at c = search needs
+
 head-at-requires : tie.Need-head-at-requires
 head-at-requires c κs = search needs
+
+-- the head that was read is the i-th record's
+head-read : (c : tie.After-head-at)
+    → c .head-at .result
+    ≡ headOf
+    (recordIn (recordAt (c .before .before .before .before .before .args .area .now) (c .before .before .before .before .before .args .i)))
+head-read c = c .head-at .ensures ∙ ap (λ (r : List ℕ). headOf (recordIn r)) (sym (record-at _ _ (omega arith)))
 
 enter-stop-requires : tie.Need-enter-stop-requires
 enter-stop-requires c κs = search needs
@@ -25,7 +41,7 @@ enter-stop-requires c κs = search needs
 returns-2 : tie.Need-returns-2
 returns-2 c =
     let seen = c .before .before in
-    c .enter-stop .ensures ∙ stop-step _ _ _ (seen .before .if1 .left) (λ e. c .before .if2 .taken (seen .head-at .ensures ∙ e))
+    c .enter-stop .ensures ∙ stop-step _ _ _ (seen .before .if1 .left) (λ e. c .before .if2 .taken (head-read seen ∙ e))
 
 get-record-requires : tie.Need-get-record-requires
 get-record-requires c κs = search needs
@@ -44,7 +60,7 @@ of-lot : (c : tie.After-get-record)
     (c .before .before .before .before .before .before .before .args .i)))
 of-lot c =
     ap (lotStep _ _) (c .get-record .ensures)
-    ∙ lot-step _ _ _ (c .before .before .before .if1 .left) (sym (c .before .before .head-at .ensures) ∙ c .before .if2 .left)
+    ∙ lot-step _ _ _ (c .before .before .before .if1 .left) (sym (head-read (c .before .before)) ∙ c .before .if2 .left)
 
 follows : (c : tie.Else3)
     → mayFollow 2 (c .before .before .before .before .before .before .before .before .before .args .carried .newest)
@@ -59,15 +75,18 @@ returns-3 c =
 has-none-wrong-requires : tie.Need-has-none-wrong-requires
 has-none-wrong-requires c κs = search needs
 
+-- what was tested is whether nothing is wrong in the lot that was read
+none-wrong-read : (c : tie.After-has-none-wrong) → noneWrong (c .before .before .before .get-record .result) ≡ c .has-none-wrong .result
+none-wrong-read c =
+    ap noneWrong (c .before .before .before .get-record .ensures ∙ ap recordIn (record-at _ _ (omega arith))) ∙ sym (c .has-none-wrong .ensures)
+
 enter-wrong-lot-requires : tie.Need-enter-wrong-lot-requires
 enter-wrong-lot-requires c κs =
     let tested = c .before in
     let read = tested .before .before .before in (
       read .before .before .before .before .before .before .before .pre .2,
       follows (tested .before),
-      ap noneWrong (read .get-record .ensures)
-          ∙ sym (tested .has-none-wrong .ensures)
-          ∙ not-true (tested .has-none-wrong .result) (c .if4 .taken),
+      none-wrong-read tested ∙ not-true (tested .has-none-wrong .result) (c .if4 .taken),
     )
 
 returns-4 : tie.Need-returns-4
@@ -76,19 +95,19 @@ returns-4 c = c .enter-wrong-lot .ensures ∙ of-lot (c .before .before .before 
 judge-requires : tie.Need-judge-requires
 judge-requires c κs = search needs
 
-cast-t11 : tie.Need-cast-t11
-cast-t11 c = search needs
+cast-t13 : tie.Need-cast-t13
+cast-t13 c = search needs
 
-add-t12 : tie.Need-add-t12
-add-t12 c =
+add-t14 : tie.Need-add-t14
+add-t14 c =
     let followed = c .before .before .before .before .before .before in
     let read = followed .before .before in
     let start = read .before .before .before .before .before .before .before in
     let size = size-in-range 2 (start .args .carried .newest) (read .get-record .result) (follows followed) in
     omega (arith, start .pre .2 .acceptedIn)
 
-cast-t13 : tie.Need-cast-t13
-cast-t13 c = search needs
+cast-t15 : tie.Need-cast-t15
+cast-t15 c = search needs
 
 returns-5 : tie.Need-returns-5
 unfolding hasOption
@@ -98,9 +117,7 @@ returns-5 c =
     let read = tested .before .before .before .before in
     rw (made .judge .ensures)
     (good-lot _ _ _
-    (ap noneWrong (read .get-record .ensures)
-    ∙ sym (tested .before .has-none-wrong .ensures)
-    ∙ not-false (tested .before .has-none-wrong .result) (tested .if4 .left))
+    (none-wrong-read (tested .before) ∙ not-false (tested .before .has-none-wrong .result) (tested .if4 .left))
     (follows (tested .before .before))
     ∙ of-lot read)
 
@@ -109,6 +126,8 @@ enter-spec =
     tie.close
     (tie.spec
     returns
+    mul-at
+    add-at
     head-at-requires
     enter-stop-requires
     returns-2
@@ -119,7 +138,7 @@ enter-spec =
     enter-wrong-lot-requires
     returns-4
     judge-requires
-    cast-t11
-    add-t12
     cast-t13
+    add-t14
+    cast-t15
     returns-5)

@@ -1,17 +1,14 @@
-use mathlib.Core.Path.{ap, _∙_}
-use Rattle.replaying.specs.Replaying.{headOf}
+use mathlib.Core.Path.{_∙_}
 use borrow.Author.Needs.{needs}
+use Rattle.replaying.proofs.Heads.{head-read}
 use Rattle.replaying.proofs.head_at.Statement.{statement}
 use Rattle.replaying.proofs.head_at.Tie as tie
 
-get-record-requires : tie.Need-get-record-requires
-get-record-requires c κs = search needs
-
-head-of-requires : tie.Need-head-of-requires
-head-of-requires c κs = search needs
+get-u32-requires : tie.Need-get-u32-requires
+get-u32-requires c κs = search needs
 
 returns : tie.Need-returns
-returns c = c .head-of .ensures .0 ∙ ap headOf (c .before .get-record .ensures)
+returns c = c .get-u32 .ensures ∙ head-read _ _ (c .before .before .pre)
 
 pub head-at-spec : {M : Type 1} → statement M
-head-at-spec = tie.close (tie.spec get-record-requires head-of-requires returns)
+head-at-spec = tie.close (tie.spec get-u32-requires returns)
