@@ -1,7 +1,7 @@
 // Code letters and sample sizes: document 000 (ISO 28594), Tables 1 and 2.
 ghost use mathlib.Core.Path.{_≡_};
 ghost use Prim.Native.Nat.{_≤_, _<_, _-_};
-ghost use Rattle.plans.specs.Tables.{table1, lettersIn, codeLetter, columnAt, tabled, levelSample};
+ghost use Rattle.plans.specs.Tables.{A as firstLetter, table1, lettersIn, codeLetter, columnAt, tabled, levelSample};
 ghost use Rattle.plans.specs.Limits.{verificationLevels};
 use crate::LotSize;
 use crate::SampleSize;
@@ -41,6 +41,14 @@ pub fn sample_size(vl: u32, severity: u32, size: LotSize) -> SampleSize
     } else {
         SampleSize(tabled)
     }
+}
+
+// The number in Table 2's first row. No column has a smaller one, so that no lot asks for less, unless it is smaller itself.
+pub fn least_sample(vl: u32, severity: u32) -> u32
+    requires { ⌜ (1 ≤ vl) × (vl ≤ verificationLevels) ⌝ }
+    ensures { λ r. ⌜ r ≡ tabled firstLetter (columnAt vl severity) ⌝ }
+{
+    SAMPLE_SIZES[0][column(vl as usize, severity)]
 }
 
 // The code letter of a lot size at the stated verification level.

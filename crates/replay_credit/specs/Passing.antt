@@ -19,7 +19,7 @@ use Rattle.replay_credit.specs.Carrying.{figuresIn}
 unfoldable pub isGoodLot : ℕ → Record → Bool
 isGoodLot newest r = eqb (headOf r) 1 && noneWrong r && mayFollow 1 newest r
 
--- past good lots of so many devices in all, the newest of this label, up to an offset
+-- past good lots of so many detections in all, the newest of this label, up to an offset
 unfoldable pub passedOver : Carried → ℕ → ℕ → ℕ → Passed
 passedOver s sum label next =
     record {
@@ -27,7 +27,7 @@ passedOver s sum label next =
       next = next;
     }
 
--- what the sums ask for, so that none overflows: no more devices than in the lots of a full area
+-- what the sums ask for, so that none overflows: no more detections than in the lots of a full area
 pub record SumFits (s : Carried) (sum : ℕ) : Type 0 where
   pub creditSum : s .credit + sum ≤ largestLot * mostRecords
   pub acceptedSum : s .accepted + sum ≤ largestLot * mostRecords

@@ -1,10 +1,11 @@
--- No sample of a level lot is smaller than 2: Table 2 has no smaller number, and the lot is no smaller. Assumes nothing.
+-- How small and how large the sample of a level lot can be: no column of Table 2 has a smaller number than its first, which is no smaller
+-- than 2, and no sample is larger than its lot. Assumes nothing.
 use Prim.Native.Nat.{ℕ, _≤_, _<_}
 use mathlib.Core.Bool.{Bool}
 use native.Mathlib.Omega.{arith}
 use lib.Dec.{eqb, leb, leb→le}
 use Rattle.plans.specs.Severities.{reduced, tightened}
-use Rattle.plans.specs.Tables.{table2, codeLetter, columnAt, tabled, levelSample}
+use Rattle.plans.specs.Tables.{A, table2, codeLetter, columnAt, tabled, levelSample}
 use Rattle.plans.proofs.Booleans.{either}
 use Rattle.plans.proofs.Below.{allBelow, each-below}
 use Rattle.plans.proofs.Rows.{code-letter-below}
@@ -15,16 +16,29 @@ column-below vl severity h =
     either (λ (n : ℕ). n < 9) (eqb severity tightened) (omega arith)
     (either (λ (n : ℕ). n < 9) (eqb severity reduced) (omega arith) (omega arith))
 
-tabled-least : (letter column : ℕ) → letter < 5 → column < 9 → 2 ≤ tabled letter column
+first-least : (letter column : ℕ) → letter < 5 → column < 9 → tabled A column ≤ tabled letter column
 unfolding tabled table2 allBelow
-tabled-least letter column l c =
-    leb→le 2 (tabled letter column) (each-below (λ (k : ℕ). leb 2 (tabled letter k)) 9 column (each-below row 5 letter tt l) c)
+first-least letter column l c =
+    leb→le (tabled A column) (tabled letter column)
+    (each-below (λ (k : ℕ). leb (tabled A k) (tabled letter k)) 9 column (each-below row 5 letter tt l) c)
   where
     row : ℕ → Bool
-    row l = allBelow (λ (k : ℕ). leb 2 (tabled l k)) 9
+    row l = allBelow (λ (k : ℕ). leb (tabled A k) (tabled l k)) 9
 
-pub sample-least : (vl severity N : ℕ) → 1 ≤ vl → 2 ≤ N → 2 ≤ levelSample vl severity N
-unfolding levelSample
-sample-least vl severity N h two =
-    let least = tabled-least (codeLetter vl N) (columnAt vl severity) (code-letter-below vl N) (column-below vl severity h) in
-    omega arith
+two-least : (column : ℕ) → column < 9 → 2 ≤ tabled A column
+unfolding tabled table2 allBelow
+two-least column c = leb→le 2 (tabled A column) (each-below (λ (k : ℕ). leb 2 (tabled A k)) 9 column tt c)
+
+module _ (vl severity N : ℕ) where
+  pub sample-least : 1 ≤ vl → (n : ℕ) → n ≤ N → n ≤ tabled A (columnAt vl severity) → n ≤ levelSample vl severity N
+  unfolding levelSample
+  sample-least h n size least =
+      let first = first-least (codeLetter vl N) (columnAt vl severity) (code-letter-below vl N) (column-below vl severity h) in
+      omega arith
+
+  pub sample-two : 1 ≤ vl → 2 ≤ N → 2 ≤ levelSample vl severity N
+  sample-two h size = sample-least h 2 size (two-least (columnAt vl severity) (column-below vl severity h))
+
+  pub sample-most : levelSample vl severity N ≤ N
+  unfolding levelSample
+  sample-most = omega arith
