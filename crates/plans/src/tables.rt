@@ -2,6 +2,7 @@
 ghost use mathlib.Core.Path.{_≡_};
 ghost use Prim.Native.Nat.{_≤_, _<_, _-_};
 ghost use Rattle.plans.specs.Tables.{A as firstLetter, table1, lettersIn, codeLetter, columnAt, tabled, levelSample};
+ghost use Rattle.plans.specs.Severities.{reduced};
 ghost use Rattle.plans.specs.Limits.{verificationLevels};
 use crate::LotSize;
 use crate::SampleSize;
@@ -43,12 +44,21 @@ pub fn sample_size(vl: u32, severity: u32, size: LotSize) -> SampleSize
     }
 }
 
-// The number in Table 2's first row. No column has a smaller one, so that no lot asks for less, unless it is smaller itself.
-pub fn least_sample(vl: u32, severity: u32) -> u32
+// The number in Table 2's first row, on reduced. Numbers grow down a column and to the left, so that no lot asks for less at this level,
+// unless it is smaller itself. A match is compiled to one load; a constant table is built anew wherever it is indexed.
+pub fn least_sample(vl: u32) -> u32
     requires { ⌜ (1 ≤ vl) × (vl ≤ verificationLevels) ⌝ }
-    ensures { λ r. ⌜ r ≡ tabled firstLetter (columnAt vl severity) ⌝ }
+    ensures { λ r. ⌜ r ≡ tabled firstLetter (columnAt vl reduced) ⌝ }
 {
-    SAMPLE_SIZES[0][column(vl as usize, severity)]
+    match vl {
+        1 => 3,
+        2 => 5,
+        3 => 12,
+        4 => 32,
+        5 => 80,
+        6 => 200,
+        _ => 512,
+    }
 }
 
 // The code letter of a lot size at the stated verification level.

@@ -8,6 +8,7 @@ use lib.Dec.{eqb, leb·zero}
 use borrow.Author.Tests.{eqb-true, eq-eqb, ne-eqb, le-leb, lt-leb, lt-ltb}
 use Rattle.plans.specs.Verdicts.{levelVerdict, acceptedOf}
 use Rattle.plans.specs.Tables.{A, columnAt, tabled, levelSample}
+use Rattle.plans.specs.Severities.{reduced}
 use Rattle.plans.specs.Levels.{judgedLot}
 use Rattle.model.specs.declared.Plan.{Plan}
 use Rattle.model.specs.Stations.{hasOption}
@@ -19,7 +20,7 @@ use Rattle.replaying.proofs.LotStreams.{none-wrong}
 use Rattle.replay_level.specs.declared.Carried.{Carried}
 use Rattle.replay_level.specs.declared.Step.the-variants.{Stands, Fails}
 use Rattle.replay_level.specs.Carrying.{fitsSample, afterLot, lotStep, stopStep, stepOf}
-use Rattle.replay_level.proofs.Samples.{sample-least, sample-two, sample-most}
+use Rattle.replay_level.proofs.Samples.{sample-least, sample-most}
 
 module _ (p : Plan) (s : Carried) (r : Record) where
   -- on a discontinued stream, a lot's record, and another
@@ -88,17 +89,12 @@ module _ (vl severity : ℕ) (r : Record) where
   unfolding fitsSample
   counts-differ e = rw (ne-eqb (r .d) (r .c) e)
 
-  pub few-wrong : 1 ≤ vl → 2 ≤ r .b → r .d ≡ r .c → r .c ≤ 2 → true ≡ fitsSample vl severity r
-  unfolding fitsSample
-  few-wrong h size same few =
-      rw (eq-eqb (r .d) (r .c) same, le-leb (r .c) (levelSample vl severity (r .b)) (omega (arith, sample-two vl severity (r .b) h size)))
-
   pub too-many : r .d ≡ r .c → r .b < r .c → false ≡ fitsSample vl severity r
   unfolding fitsSample
   too-many same many =
       rw (eq-eqb (r .d) (r .c) same, lt-leb (r .c) (levelSample vl severity (r .b)) (omega (arith, sample-most vl severity (r .b))))
 
-  pub within-least : 1 ≤ vl → r .d ≡ r .c → r .c ≤ r .b → r .c ≤ tabled A (columnAt vl severity) → true ≡ fitsSample vl severity r
+  pub within-least : 1 ≤ vl → vl ≤ 7 → r .d ≡ r .c → r .c ≤ r .b → r .c ≤ tabled A (columnAt vl reduced) → true ≡ fitsSample vl severity r
   unfolding fitsSample
-  within-least h same size few =
-      rw (eq-eqb (r .d) (r .c) same, le-leb (r .c) (levelSample vl severity (r .b)) (sample-least vl severity (r .b) h (r .c) size few))
+  within-least h g same size few =
+      rw (eq-eqb (r .d) (r .c) same, le-leb (r .c) (levelSample vl severity (r .b)) (sample-least vl severity (r .b) h g (r .c) size few))

@@ -1,6 +1,6 @@
--- How small and how large the sample of a level lot can be: no column of Table 2 has a smaller number than its first, which is no smaller
--- than 2, and no sample is larger than its lot. Assumes nothing.
-use Prim.Native.Nat.{ℕ, _≤_, _<_}
+-- How small and how large the sample of a level lot can be: Table 2's numbers grow down a column and to the left, and no sample is larger
+-- than its lot. Assumes nothing.
+use Prim.Native.Nat.{ℕ, _-_, _≤_, _<_}
 use mathlib.Core.Bool.{Bool}
 use native.Mathlib.Omega.{arith}
 use lib.Dec.{eqb, leb, leb→le}
@@ -16,6 +16,7 @@ column-below vl severity h =
     either (λ (n : ℕ). n < 9) (eqb severity tightened) (omega arith)
     (either (λ (n : ℕ). n < 9) (eqb severity reduced) (omega arith) (omega arith))
 
+-- the first row has the least of a column
 first-least : (letter column : ℕ) → letter < 5 → column < 9 → tabled A column ≤ tabled letter column
 unfolding tabled table2 allBelow
 first-least letter column l c =
@@ -25,19 +26,23 @@ first-least letter column l c =
     row : ℕ → Bool
     row l = allBelow (λ (k : ℕ). leb (tabled A k) (tabled l k)) 9
 
-two-least : (column : ℕ) → column < 9 → 2 ≤ tabled A column
-unfolding tabled table2 allBelow
-two-least column c = leb→le 2 (tabled A column) (each-below (λ (k : ℕ). leb 2 (tabled A k)) 9 column tt c)
+-- and to the right of every severity's column is that of reduced
+right-least : (vl severity : ℕ) → vl < 8 → tabled A (columnAt vl reduced) ≤ tabled A (columnAt vl severity)
+unfolding columnAt tabled table2 allBelow
+right-least vl severity h =
+    either (λ (n : ℕ). tabled A (9 - vl) ≤ tabled A n) (eqb severity tightened)
+    (leb→le _ _ (each-below (λ (v : ℕ). leb (tabled A (9 - v)) (tabled A (7 - v))) 8 vl tt h))
+    (either (λ (n : ℕ). tabled A (9 - vl) ≤ tabled A n) (eqb severity reduced)
+    (omega arith)
+    (leb→le _ _ (each-below (λ (v : ℕ). leb (tabled A (9 - v)) (tabled A (8 - v))) 8 vl tt h)))
 
 module _ (vl severity N : ℕ) where
-  pub sample-least : 1 ≤ vl → (n : ℕ) → n ≤ N → n ≤ tabled A (columnAt vl severity) → n ≤ levelSample vl severity N
+  pub sample-least : 1 ≤ vl → vl ≤ 7 → (n : ℕ) → n ≤ N → n ≤ tabled A (columnAt vl reduced) → n ≤ levelSample vl severity N
   unfolding levelSample
-  sample-least h n size least =
-      let first = first-least (codeLetter vl N) (columnAt vl severity) (code-letter-below vl N) (column-below vl severity h) in
+  sample-least h g n size least =
+      let down = first-least (codeLetter vl N) (columnAt vl severity) (code-letter-below vl N) (column-below vl severity h) in
+      let right = right-least vl severity (omega arith) in
       omega arith
-
-  pub sample-two : 1 ≤ vl → 2 ≤ N → 2 ≤ levelSample vl severity N
-  sample-two h size = sample-least h 2 size (two-least (columnAt vl severity) (column-below vl severity h))
 
   pub sample-most : levelSample vl severity N ≤ N
   unfolding levelSample

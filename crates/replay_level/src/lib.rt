@@ -167,8 +167,8 @@ fn enter_wrong_lot(plan: Plan, carried: Carried, read: Record) -> Step
     Step::Fails
 }
 
-// What refusal 13 leaves of a lot: as many wrong in all as in the sample, which holds them. No sample is smaller than 2, nor, unless the
-// lot is, than the least of its column: so it is worked out for many wrong alone.
+// What refusal 13 leaves of a lot: as many wrong in all as in the sample, which holds them. The sample itself is worked out only where
+// more is wrong than the least that any lot at this level asks for.
 fn fits_sample(vl: u32, severity: u32, read: Record) -> bool
     requires { ⌜ (1 ≤ vl) × (vl ≤ 7) × (2 ≤ read .b) ⌝ }
     ensures { λ r. ⌜ r ≡ fitsSample vl severity read ⌝ }
@@ -176,13 +176,10 @@ fn fits_sample(vl: u32, severity: u32, read: Record) -> bool
     if read.d != read.c {
         return false;
     }
-    if read.c <= 2 {
-        return true;
-    }
     if read.b < read.c {
         return false;
     }
-    if read.c <= tables::least_sample(vl, severity) {
+    if read.c <= tables::least_sample(vl) {
         return true;
     }
     read.c <= tables::sample_size(vl, severity, LotSize(read.b)).0
