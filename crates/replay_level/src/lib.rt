@@ -170,7 +170,7 @@ fn enter_wrong_lot(plan: Plan, carried: Carried, read: Record) -> Step
 // What refusal 13 leaves of a lot: as many wrong in all as in the sample, which holds them. The sample itself is worked out only where
 // more is wrong than the least that any lot at this level asks for.
 fn fits_sample(vl: u32, severity: u32, read: Record) -> bool
-    requires { ⌜ (1 ≤ vl) × (vl ≤ 7) × (2 ≤ read .b) ⌝ }
+    requires { ⌜ (1 ≤ vl) × (vl ≤ 7) ⌝ }
     ensures { λ r. ⌜ r ≡ fitsSample vl severity read ⌝ }
 {
     if read.d != read.c {

@@ -1,17 +1,12 @@
 use mathlib.Core.Path.{sym, _∙_}
-use native.Mathlib.Omega.{arith}
 use Rattle.model.specs.Stations.{hasOption}
-use Rattle.replaying.proofs.LotStreams.{size-in-range}
 use Rattle.replay_level.proofs.Lots.{unfit, wrong-lot}
 use borrow.Author.Needs.{needs}
 use Rattle.replay_level.proofs.enter_wrong_lot.Statement.{statement}
 use Rattle.replay_level.proofs.enter_wrong_lot.Tie as tie
 
 fits-sample-requires : tie.Need-fits-sample-requires
-fits-sample-requires c κs =
-    let start = c .before in
-    let size = size-in-range 2 (start .args .carried .newest) (start .args .read) (start .pre .1) in
-    omega arith
+fits-sample-requires c κs = search needs
 
 judge-requires : tie.Need-judge-requires
 judge-requires c κs = search needs
