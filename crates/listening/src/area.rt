@@ -39,7 +39,7 @@ pub fn open(area: &mut [u8], plan: Plan) -> u32
     0
 }
 
-// Enters a lot, run, block or stop.
+// Enters a lot, run, block or stop. Its answer is made before anything is written, so that the figures before it need not be kept.
 pub fn enter(area: &mut [u8], entry: Entry) -> Answer
     requires { ⌜ length (now area) ≡ areaLength ⌝ }
     ensures { λ r. ⌜ record { answer = r; area = now (area .exit) } ≡ onArea (now (area .entry)) (Enter entry) ⌝ }
@@ -51,16 +51,15 @@ pub fn enter(area: &mut [u8], entry: Entry) -> Answer
     if !standing.opened {
         return answering::refused(6);
     }
-    let plan = standing.plan;
-    let figures = standing.figures;
     let count = standing.count;
-    let refusal = refusing::entry(plan, figures, count, entry);
+    let refusal = refusing::entry(standing.plan, standing.figures, count, entry);
     if refusal != 0 {
         return answering::refused(refusal);
     }
-    let after = stepping::entry(plan, figures, count, entry);
+    let after = stepping::entry(standing.plan, standing.figures, count, entry);
+    let answer = answering::entry(standing.plan, standing.figures, after, count, entry);
     put_entry(area, count, after, entry);
-    answering::entry(plan, figures, after, count, entry)
+    answer
 }
 
 // Takes the newest entry back. The reading sets it apart, and hands over the figures before it: they can't be had from those after.

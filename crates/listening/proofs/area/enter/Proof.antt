@@ -34,8 +34,7 @@ returns-2 c =
 
 entry-requires : tie.Need-entry-requires
 entry-requires c κs =
-    let opened = c .before .before in
-    let at = read-opened _ _ _ (opened .before .before .before .before .read .ensures) (not-false _ (opened .if2 .left)) in
+    let at = read-opened _ _ _ (c .before .before .before .before .read .ensures) (not-false _ (c .if2 .left)) in
     (read-plan (at .1), read-figures (at .1), read-count (at .1))
 
 refused-requires-3 : tie.Need-refused-requires-3
@@ -46,48 +45,49 @@ same-length-3 c = search needs
 
 returns-3 : tie.Need-returns-3
 returns-3 c =
-    let opened = c .before .before .before .before .before in
+    let opened = c .before .before .before in
     let at = read-opened _ _ _ (opened .before .before .before .before .read .ensures) (not-false _ (opened .if2 .left)) in
     enter-refused (at .1) _ (c .before .before .entry .ensures) (c .before .if3 .taken) (c .refused3 .ensures)
 
 entry-requires-2 : tie.Need-entry-requires-2
 entry-requires-2 c κs =
-    let opened = c .before .before .before .before in
+    let opened = c .before .before in
     let at = read-opened _ _ _ (opened .before .before .before .before .read .ensures) (not-false _ (opened .if2 .left)) in
     (read-plan (at .1), read-figures (at .1), sym (c .before .entry .ensures) ∙ c .if3 .left)
 
+entry-requires-3 : tie.Need-entry-requires-3
+entry-requires-3 c κs =
+    let taken = c .before in
+    let opened = taken .before .before in
+    let at = read-opened _ _ _ (opened .before .before .before .before .read .ensures) (not-false _ (opened .if2 .left)) in
+    (read-plan (at .1), sym (taken .before .entry .ensures) ∙ taken .if3 .left, c .entry2 .ensures)
+
 put-entry-requires : tie.Need-put-entry-requires
 put-entry-requires c κs =
-    let taken = c .before .before in
-    let opened = taken .before .before .before .before in
+    let after = c .before .before in
+    let taken = after .before in
+    let opened = taken .before .before in
     let read = opened .before .before .before .before in
     let at = read-opened _ _ _ (read .read .ensures) (not-false _ (opened .if2 .left)) in
     let none = sym (taken .before .entry .ensures) ∙ taken .if3 .left in (
       read .before .before .before .pre,
       room-for _ _ _ _ none,
       flag-fits _ _ _ _ none,
-      after-fits (at .1) _ none (c .before .entry2 .ensures),
+      after-fits (at .1) _ none (after .entry2 .ensures),
     )
-
-entry-requires-3 : tie.Need-entry-requires-3
-entry-requires-3 c κs =
-    let after = c .before .before .before .before in
-    let taken = after .before in
-    let opened = taken .before .before .before .before in
-    let at = read-opened _ _ _ (opened .before .before .before .before .read .ensures) (not-false _ (opened .if2 .left)) in
-    (read-plan (at .1), sym (taken .before .entry .ensures) ∙ taken .if3 .left, after .entry2 .ensures)
 
 same-length-4 : tie.Need-same-length-4
 same-length-4 c = search needs
 
 returns-4 : tie.Need-returns-4
 returns-4 c =
-    let put = c .before .before .before in
-    let after = put .before .before in
+    let put = c .before .before in
+    let answered = put .before .before in
+    let after = answered .before in
     let taken = after .before in
-    let opened = taken .before .before .before .before in
+    let opened = taken .before .before in
     let at = read-opened _ _ _ (opened .before .before .before .before .read .ensures) (not-false _ (opened .if2 .left)) in
-    entered (at .1) _ (taken .before .entry .ensures) (taken .if3 .left) (after .entry2 .ensures) (c .entry3 .ensures) (put .put-entry .ensures)
+    entered (at .1) _ (taken .before .entry .ensures) (taken .if3 .left) (after .entry2 .ensures) (answered .entry3 .ensures) (put .put-entry .ensures)
 
 pub enter-spec : {M : Type 1} → statement M
 enter-spec =
@@ -105,7 +105,7 @@ enter-spec =
     same-length-3
     returns-3
     entry-requires-2
-    put-entry-requires
     entry-requires-3
+    put-entry-requires
     same-length-4
     returns-4)
