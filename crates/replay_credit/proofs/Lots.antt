@@ -1,6 +1,6 @@
 -- The answers to a lot's record on a credit stream, one law for each. Assumes nothing.
 use Prim.Native.Nat.{ℕ, _+_, _-_, _≤_, _<_}
-use mathlib.Core.Path.{_≡_, ap, _∙_}
+use mathlib.Core.Path.{_≡_, refl, ap, _∙_}
 use mathlib.Core.Bool.{Bool, true, false, cond, not, _&&_, _||_, and-false}
 use native.Mathlib.Omega.{arith}
 use lib.Dec.{eqb, leb·zero}
@@ -10,7 +10,7 @@ use Rattle.plans.specs.Verdicts.{lotHeard, lotWithheld, acceptedOf}
 use Rattle.model.specs.declared.Plan.{Plan}
 use Rattle.model.specs.Stations.{hasOption, within}
 use Rattle.model.specs.Calls.{countsAgree}
-use Rattle.model.proofs.Booleans.{both-true, within-of}
+use Rattle.model.proofs.Booleans.{both-true, never-both, within-of}
 use Rattle.records.specs.declared.Record.{Record}
 use Rattle.replaying.specs.Replaying.{headOf, noneWrong}
 use Rattle.replaying.specs.LotStreams.{mayFollow}
@@ -19,6 +19,15 @@ use Rattle.replay_credit.specs.declared.Carried.{Carried}
 use Rattle.replay_credit.specs.declared.Step.the-variants.{Stands, Fails}
 use Rattle.replay_credit.specs.Passing.{isGoodLot}
 use Rattle.replay_credit.specs.Carrying.{verdictIn, countsFit, afterLot, lotStep, stopStep, stepOf}
+
+-- a lot that may follow and is no good one has something wrong
+pub some-wrong : (newest : ℕ) (r : Record) → isGoodLot newest r ≡ false → headOf r ≡ 1 → mayFollow 1 newest r ≡ true → noneWrong r ≡ false
+unfolding isGoodLot
+some-wrong newest r other head follows = go (noneWrong r) refl
+  where
+    go : (b : Bool) → noneWrong r ≡ b → b ≡ false
+    go true e = absurd (never-both true refl (rw (eq-eqb (headOf r) 1 head, follows, e) at other))
+    go false e = refl
 
 -- the range of all that was found wrong, by the verdict v on a lot of N with d wrong in a sample of n: the rule's last two parts
 abbrev byVerdict : ℕ → ℕ → ℕ → ℕ → ℕ → Bool

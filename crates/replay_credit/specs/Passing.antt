@@ -1,14 +1,16 @@
 -- Good lots, passed one after the other: paper 01, "Credit lots". The replay counts in bytes; here is what it knows at an offset.
 -- Assumes nothing.
-use Prim.Native.Nat.{ℕ, _+_, _*_, _≤_}
+use Prim.Native.Nat.{ℕ, _+_, _*_, _≤_, _<_}
 use mathlib.Core.Path.{_≡_}
-use mathlib.Core.Bool.{Bool, _&&_}
+use mathlib.Core.Bool.{Bool, false, _&&_}
 use mathlib.Core.List.{List}
 use lib.Dec.{eqb}
+use Rattle.little.specs.Little.{part}
 use Rattle.plans.specs.Limits.{largestLot}
 use Rattle.model.specs.declared.Plan.{Plan}
 use Rattle.model.specs.Sizes.{recordLength, headerLength, mostRecords}
 use Rattle.records.specs.declared.Record.{Record}
+use Rattle.records.specs.Records.{recordIn}
 use Rattle.replaying.specs.Replaying.{headOf, noneWrong, Ready}
 use Rattle.replaying.specs.LotStreams.{mayFollow}
 use Rattle.replay_credit.specs.declared.Carried.{Carried}
@@ -50,3 +52,7 @@ pub record SomeReady (area : List ℕ) (s : Carried) (at end : ℕ) : Type 0 whe
 pub record PassedGood (area : List ℕ) (s : Carried) (at end : ℕ) (r : Passed) : Type 0 where
   pub onward : at ≤ r .next
   pub readyNext : (p : Plan) → ReadyAt p area s at end → ReadyAt p area (r .carried) (r .next) end
+
+-- what stands behind them, up to the end, is no good lot
+abbrev pub StopsAtOther : List ℕ → ℕ → Passed → Type 0
+StopsAtOther area end r = r .next < end → isGoodLot (r .carried .newest) (recordIn (part (r .next) recordLength area)) ≡ false

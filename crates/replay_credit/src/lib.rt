@@ -17,7 +17,7 @@ ghost use Rattle.replay_credit.specs.Carrying.{
   stepOf,
   Bounded,
 };
-ghost use Rattle.replay_credit.specs.Passing.{isGoodLot, passedOver, SumFits, SomeReady, PassedGood};
+ghost use Rattle.replay_credit.specs.Passing.{isGoodLot, passedOver, SumFits, SomeReady, PassedGood, StopsAtOther};
 use model::Figures;
 use model::Plan;
 use model::sizes;
@@ -83,7 +83,7 @@ pub fn replay(area: &[u8], plan: Plan, figures: Figures, from: usize, to: usize)
 // to what is accepted alike, whatever the plan: so one sum is kept for both.
 fn pass_good_lots(area: &[u8], carried: Carried, from: usize, to: usize) -> Passed
     requires { ⌜ SomeReady (now area) carried from to ⌝ }
-    ensures { λ r. ⌜ PassedGood (now (area .entry)) carried from to r ⌝ }
+    ensures { λ r. ⌜ PassedGood (now (area .entry)) carried from to r × StopsAtOther (now (area .entry)) to r ⌝ }
 {
     let mut newest = carried.newest;
     let mut sum: u64 = 0;
@@ -159,9 +159,10 @@ fn figures_of(carried: Carried) -> Figures
     }
 }
 
-// Enters the record at an offset. Each branch reads the record for itself: so compiled, it loads the numbers that it looks at, and no more.
+// Enters the record at an offset, which is no good lot: a lot that may follow has something wrong. Each branch reads the record for
+// itself: so compiled, it loads the numbers that it looks at, and no more.
 fn enter(area: &[u8], plan: Plan, carried: Carried, at: usize) -> Step
-    requires { ⌜ (at + recordLength ≤ length (now area)) × Bounded plan carried ⌝ }
+    requires { ⌜ (at + recordLength ≤ length (now area)) × Bounded plan carried × (isGoodLot (carried .newest) (recordIn (part at recordLength (now area))) ≡ false) ⌝ }
     ensures { λ r. ⌜ r ≡ stepOf plan carried (recordIn (part at recordLength (now (area .entry)))) ⌝ }
 {
     if replaying::head_at(area, at) != replaying::LOT {
@@ -171,14 +172,7 @@ fn enter(area: &[u8], plan: Plan, carried: Carried, at: usize) -> Step
     if !may_follow(carried.newest, read) {
         return Step::Fails;
     }
-    if !replaying::has_none_wrong(area, at) {
-        return enter_wrong_lot(plan, carried, read);
-    }
-    Step::Stands(Carried {
-        credit: carried.credit + read.b,
-        accepted: carried.accepted + read.b as u64,
-        newest: read.a as u64,
-    })
+    enter_wrong_lot(plan, carried, read)
 }
 
 // Paper 01, "Calls", Stop: on credit streams it is entered without effect.

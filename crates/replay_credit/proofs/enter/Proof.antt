@@ -1,16 +1,14 @@
 use Rattle.replaying.specs.Replaying.{noneWrong}
 use Rattle.replaying.specs.LotStreams.{mayFollow}
-use Rattle.replaying.proofs.LotStreams.{size-in-range}
 use mathlib.Core.Path.{_≡_, sym, ap, _∙_}
 use mathlib.Core.Bool.{true}
-use native.Mathlib.Omega.{arith}
 use borrow.Author.Needs.{needs}
 use borrow.Author.Tests.{not-true, not-false}
 use Rattle.little.specs.Little.{part}
 use Rattle.model.specs.Sizes.{recordLength}
 use Rattle.records.specs.Records.{recordIn}
 use Rattle.replay_credit.specs.Carrying.{lotStep, stepOf}
-use Rattle.replay_credit.proofs.Lots.{lot-step, stop-step, not-following, good-lot}
+use Rattle.replay_credit.proofs.Lots.{lot-step, stop-step, not-following, some-wrong}
 use Rattle.replay_credit.proofs.enter.Statement.{statement}
 use Rattle.replay_credit.proofs.enter.Tie as tie
 
@@ -47,49 +45,19 @@ returns-2 c =
     not-following _ _ _ (sym (c .before .may-follow .ensures) ∙ not-true (c .before .may-follow .result) (c .if2 .taken))
     ∙ of-lot (c .before .before)
 
-has-none-wrong-requires : tie.Need-has-none-wrong-requires
-has-none-wrong-requires c κs = search needs
-
 enter-wrong-lot-requires : tie.Need-enter-wrong-lot-requires
 enter-wrong-lot-requires c κs =
-    let tested = c .before in
-    let read = tested .before .before .before in (
-      read .before .before .before .before .pre .1,
-      follows (tested .before),
+    let read = c .before .before in
+    let lot = read .before in
+    let start = lot .before .before .before in (
+      start .pre .1,
+      follows c,
       ap noneWrong (read .get-record-at .ensures)
-          ∙ sym (tested .has-none-wrong .ensures)
-          ∙ not-true (tested .has-none-wrong .result) (c .if3 .taken),
+          ∙ some-wrong _ _ (start .pre .2) (sym (lot .before .head-at .ensures) ∙ lot .if1 .left) (ap (mayFollow 1 _) (sym (read .get-record-at .ensures)) ∙ follows c),
     )
 
 returns-3 : tie.Need-returns-3
-returns-3 c = c .enter-wrong-lot .ensures ∙ of-lot (c .before .before .before .before .before)
-
-add-t6 : tie.Need-add-t6
-add-t6 c =
-    let tested = c .before .before .before in
-    let start = tested .before .before .before .before .before .before .before in
-    let size = size-in-range 1 (start .args .carried .newest) (tested .before .before .before .get-record-at .result) (follows (tested .before)) in
-    omega arith
-
-cast-t9 : tie.Need-cast-t9
-cast-t9 c = search needs
-
-add-t10 : tie.Need-add-t10
-add-t10 c = search needs
-
-cast-t11 : tie.Need-cast-t11
-cast-t11 c = search needs
-
-returns-4 : tie.Need-returns-4
-returns-4 c =
-    let tested = c .before .before .before .before .before .before in
-    let read = tested .before .before .before in
-    good-lot _ _ _
-    (ap noneWrong (read .get-record-at .ensures)
-    ∙ sym (tested .has-none-wrong .ensures)
-    ∙ not-false (tested .has-none-wrong .result) (c .before .before .before .before .before .if3 .left))
-    (follows (tested .before))
-    ∙ of-lot read
+returns-3 c = c .enter-wrong-lot .ensures ∙ of-lot (c .before .before .before)
 
 pub enter-spec : {M : Type 1} → statement M
 enter-spec =
@@ -101,11 +69,5 @@ enter-spec =
     get-record-at-requires
     may-follow-requires
     returns-2
-    has-none-wrong-requires
     enter-wrong-lot-requires
-    returns-3
-    add-t6
-    cast-t9
-    add-t10
-    cast-t11
-    returns-4)
+    returns-3)

@@ -2,7 +2,7 @@ use Prim.Native.Nat.{_+_, _-_, _≤_}
 use mathlib.Core.Path.{sym, _∙_}
 use native.Mathlib.Omega.{arith}
 use borrow.Author.Needs.{needs}
-use borrow.Author.Tests.{not-false}
+use borrow.Author.Tests.{not-true, not-false}
 use lib.ListN.{length}
 use Rattle.little.specs.Little.{AreBytes}
 use Rattle.model.specs.Sizes.{recordLength}
@@ -39,7 +39,11 @@ passed-over-requires : tie.Need-passed-over-requires Inv-loop μ-loop
 passed-over-requires c κs = sum-so-far (c .before .before .before)
 
 returns : tie.Need-returns Inv-loop μ-loop
-returns c = rw (c .passed-over .ensures) (c .before .before .before .before .loop .inv)
+unfolding passedOver
+returns c =
+    let tested = c .before .before in
+    rw (c .passed-over .ensures)
+    (tested .before .before .loop .inv, λ more. sym (tested .is-good-lot .ensures) ∙ not-true (tested .is-good-lot .result) (c .before .if1 .taken))
 
 get-record-at-requires : tie.Need-get-record-at-requires Inv-loop μ-loop
 get-record-at-requires c κs = whole-in-area (c .before .before)
@@ -71,7 +75,10 @@ passed-over-requires-2 : tie.Need-passed-over-requires-2 Inv-loop μ-loop
 passed-over-requires-2 c κs = sum-so-far (c .before)
 
 returns-2 : tie.Need-returns-2 Inv-loop μ-loop
-returns-2 c = rw (c .passed-over2 .ensures) (c .before .before .loop .inv)
+unfolding passedOver
+returns-2 c =
+    rw (c .passed-over2 .ensures)
+    (c .before .before .loop .inv, λ more. let none : ⊥ = omega (arith, more, c .before .loop-test .left) in absurd none)
 
 pub pass-good-lots-spec : {M : Type 1} → statement M
 pass-good-lots-spec =

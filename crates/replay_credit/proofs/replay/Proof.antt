@@ -4,13 +4,13 @@ use native.Mathlib.Omega.{arith}
 use borrow.Author.Needs.{needs}
 use Rattle.little.specs.Little.{AreBytes}
 use Rattle.model.specs.Sizes.{recordLength, headerLength}
-use Rattle.replay_credit.specs.Passing.{ReadyAt}
+use Rattle.replay_credit.specs.Passing.{ReadyAt, StopsAtOther}
 use Rattle.replay_credit.proofs.Turning.{ready-numbers, in-area, bounded, turned, stopped, over}
 use Rattle.replay_credit.proofs.replay.Statement.{statement}
 use Rattle.replay_credit.proofs.replay.Tie as tie
 
 abbrev Inv-loop : tie.InvT-loop
-Inv-loop area plan from to end passed₀ passed = ReadyAt plan area (passed .carried) (passed .next) end
+Inv-loop area plan from to end passed₀ passed = ReadyAt plan area (passed .carried) (passed .next) end × StopsAtOther area end passed
 
 abbrev μ-loop : tie.MeasureT-loop
 μ-loop area plan from to end passed₀ passed = end - passed .next
@@ -45,14 +45,17 @@ pass-good-lots-requires : tie.Need-pass-good-lots-requires Inv-loop μ-loop
 pass-good-lots-requires c κs = record { plan = _; readyAt = at-first c }
 
 loop-holds : tie.Need-loop-holds Inv-loop μ-loop
-loop-holds c = c .pass-good-lots .ensures .readyNext _ (at-first (c .before))
+loop-holds c =
+    let passed = c .pass-good-lots .ensures in
+    (passed .0 .readyNext _ (at-first (c .before)), passed .1)
 
 enter-requires : tie.Need-enter-requires Inv-loop μ-loop
 enter-requires c κs =
     let turn = c .before .before in
     let bytes = bytes-of (turn .before .before .before) in (
-      in-area _ _ bytes _ _ _ (turn .loop .inv) (c .if1 .taken),
-      bounded _ _ bytes _ _ _ (turn .loop .inv) (c .if1 .taken),
+      in-area _ _ bytes _ _ _ (turn .loop .inv .0) (c .if1 .taken),
+      bounded _ _ bytes _ _ _ (turn .loop .inv .0) (c .if1 .taken),
+      turn .loop .inv .1 (c .if1 .taken),
     )
 
 enum-known-next : tie.Need-enum-known-next Inv-loop μ-loop
@@ -69,7 +72,7 @@ returns c =
     let made = c .before .before .before in
     let turn = made .before .before .before in
     rw (c .figures-of .ensures)
-    (stopped _ _ (bytes-of (turn .before .before .before)) _ _ _ (turn .loop .inv) (made .before .if1 .taken) _ refl
+    (stopped _ _ (bytes-of (turn .before .before .before)) _ _ _ (turn .loop .inv .0) (made .before .if1 .taken) _ refl
     (sym (c .before .enum-told .given .1) ∙ made .enter .ensures))
 
 -- behind the record that was entered
@@ -81,7 +84,7 @@ at-next : (c : tie.After-next Inv-loop μ-loop)
 at-next c =
     let made = c .before .before in
     let turn = made .before .before .before in
-    turned _ _ (bytes-of (turn .before .before .before)) _ _ _ (turn .loop .inv) (made .before .if1 .taken) _
+    turned _ _ (bytes-of (turn .before .before .before)) _ _ _ (turn .loop .inv .0) (made .before .if1 .taken) _
     (sym (c .next .given .1) ∙ made .enter .ensures)
 
 add-pass-good-lots-2 : tie.Need-add-pass-good-lots-2 Inv-loop μ-loop
@@ -91,10 +94,12 @@ pass-good-lots-requires-2 : tie.Need-pass-good-lots-requires-2 Inv-loop μ-loop
 pass-good-lots-requires-2 c κs = record { plan = _; readyAt = at-next (c .before .before) }
 
 loop-less : tie.Need-loop-less Inv-loop μ-loop
-loop-less c = omega (arith, c .pass-good-lots2 .ensures .onward)
+loop-less c = omega (arith, c .pass-good-lots2 .ensures .0 .onward)
 
 loop-again : tie.Need-loop-again Inv-loop μ-loop
-loop-again c = c .pass-good-lots2 .ensures .readyNext _ (at-next (c .before .before .before))
+loop-again c =
+    let passed = c .pass-good-lots2 .ensures in
+    (passed .0 .readyNext _ (at-next (c .before .before .before)), passed .1)
 
 figures-of-requires-2 : tie.Need-figures-of-requires-2 Inv-loop μ-loop
 figures-of-requires-2 c κs = search needs
@@ -103,7 +108,7 @@ returns-2 : tie.Need-returns-2 Inv-loop μ-loop
 returns-2 c =
     let turn = c .before .before .before in
     rw (c .figures-of2 .ensures)
-    (over _ _ (bytes-of (turn .before .before .before)) _ _ _ (turn .loop .inv) _ refl (c .before .if1 .left))
+    (over _ _ (bytes-of (turn .before .before .before)) _ _ _ (turn .loop .inv .0) _ refl (c .before .if1 .left))
 
 pub replay-spec : {M : Type 1} → statement M
 replay-spec =
