@@ -1,10 +1,10 @@
 -- Which records can stand on a continuous stream: those of accepted runs, blocks and stops, and no others. Assumes nothing.
-use Prim.Native.Nat.{ℕ, zero, suc, _+_, _*_, _<_}
+use Prim.Native.Nat.{ℕ, _+_, _*_, _<_}
 use mathlib.Core.Path.{_≡_, refl, sym, _∙_}
 use mathlib.Core.Bool.{Bool, true, false, cond, not, _&&_, _||_}
 use native.Mathlib.Omega.{arith}
-use lib.Bits.{bitOr, or-add-and, and-le-r}
-use lib.Dec.{eqb, eqb·suc-zero}
+use lib.Bits.{bitOr}
+use lib.Dec.{eqb}
 use borrow.Author.Tests.{eq-eqb, ne-eqb, le-leb, lt-leb, le-ltb, eqb-true}
 use Rattle.model.specs.declared.Plan.{Plan}
 use Rattle.model.specs.declared.Entry.the-variants.{Run, Block, Stop}
@@ -16,6 +16,7 @@ use Rattle.model.proofs.Allowed.{AllowedRun, AllowedBlock, allowed-lot, allowed
 use Rattle.records.specs.declared.Record.{Record}
 use Rattle.replaying.specs.Replaying.{entryOf, oneNumber, NoMore, wellFormed, isStop, stands, entered, unsoundAt}
 use Rattle.replaying.proofs.Answers.{lot-of, run-of, block-of, stop-of, accepted-zero, no-more}
+use Rattle.replaying.proofs.Together.{either-bit}
 use Rattle.replaying.proofs.Heads.{both-zero}
 use Rattle.replaying.proofs.Stops.{stop-accepts}
 
@@ -47,12 +48,6 @@ module _ (p : Plan) (f : Figures) (i : ℕ) where
         le-ltb 1 w (x .wrong),
         x .sampled,
       )
-
--- a bit of either is a bit of the two together
-either-bit : (x y : ℕ) → eqb (bitOr x y) 0 ≡ eqb x 0 && eqb y 0
-either-bit zero y = refl
-either-bit (suc x) y =
-    rw (eqb·suc-zero x) (ne-eqb (bitOr (suc x) y) 0 (λ e. omega (arith, or-add-and (suc x) y, and-le-r (suc x) y)))
 
 module _ (r : Record) where
   -- three numbers compared as one

@@ -12,7 +12,7 @@ use Rattle.model.specs.Stations.{hasOption, within}
 use Rattle.model.specs.Calls.{countsAgree}
 use Rattle.model.proofs.Booleans.{both-true, never-both, within-of}
 use Rattle.records.specs.declared.Record.{Record}
-use Rattle.replaying.specs.Replaying.{headOf, noneWrong}
+use Rattle.replaying.specs.Replaying.{headOf, noneWrong, faultless}
 use Rattle.replaying.specs.LotStreams.{mayFollow}
 use Rattle.replaying.proofs.LotStreams.{none-wrong}
 use Rattle.replay_credit.specs.declared.Carried.{Carried}
@@ -22,7 +22,7 @@ use Rattle.replay_credit.specs.Carrying.{verdictIn, countsFit, afterLot,
 
 -- a lot that may follow and is no good one has something wrong
 pub some-wrong : (newest : ℕ) (r : Record) → isGoodLot newest r ≡ false → headOf r ≡ 1 → mayFollow 1 newest r ≡ true → noneWrong r ≡ false
-unfolding isGoodLot
+unfolding isGoodLot faultless
 some-wrong newest r other head follows = go (noneWrong r) refl
   where
     go : (b : Bool) → noneWrong r ≡ b → b ≡ false
@@ -75,7 +75,7 @@ module _ (p : Plan) (s : Carried) (r : Record) where
 
   pub good-step : isGoodLot (s .newest) r ≡ true
       → Stands (record { credit = s .credit + r .b; accepted = s .accepted + r .b; newest = r .a }) ≡ stepOf p s r
-  unfolding isGoodLot
+  unfolding isGoodLot faultless
   good-step e =
       let all = both-true (eqb (headOf r) 1 && noneWrong r) (mayFollow 1 (s .newest) r) e in
       let lot = both-true (eqb (headOf r) 1) (noneWrong r) (all .0) in

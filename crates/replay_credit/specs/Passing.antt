@@ -4,14 +4,13 @@ use Prim.Native.Nat.{ℕ, _+_, _*_, _≤_, _<_}
 use mathlib.Core.Path.{_≡_}
 use mathlib.Core.Bool.{Bool, false, _&&_}
 use mathlib.Core.List.{List}
-use lib.Dec.{eqb}
 use Rattle.little.specs.Little.{part}
 use Rattle.plans.specs.Limits.{largestLot}
 use Rattle.model.specs.declared.Plan.{Plan}
 use Rattle.model.specs.Sizes.{recordLength, headerLength, mostRecords}
 use Rattle.records.specs.declared.Record.{Record}
 use Rattle.records.specs.Records.{recordIn}
-use Rattle.replaying.specs.Replaying.{headOf, noneWrong, Ready}
+use Rattle.replaying.specs.Replaying.{faultless, Ready}
 use Rattle.replaying.specs.LotStreams.{mayFollow}
 use Rattle.replay_credit.specs.declared.Carried.{Carried}
 use Rattle.replay_credit.specs.declared.Passed.{Passed}
@@ -19,7 +18,7 @@ use Rattle.replay_credit.specs.Carrying.{figuresIn}
 
 -- a record of a lot with nothing wrong that may follow the newest one: it is accepted whole, whatever the AOQL and the option
 unfoldable pub isGoodLot : ℕ → Record → Bool
-isGoodLot newest r = eqb (headOf r) 1 && noneWrong r && mayFollow 1 newest r
+isGoodLot newest r = faultless r && mayFollow 1 newest r
 
 -- past good lots of so many detections in all, the newest of this label, up to an offset
 unfoldable pub passedOver : Carried → ℕ → ℕ → ℕ → Passed

@@ -115,16 +115,12 @@ fn passed_over(carried: Carried, sum: u64, newest: u64, next: usize) -> Passed
     }
 }
 
-// Is the record at an offset a good lot? Its head has to be a lot's, and what is wrong in the sample and in all zero: no bit is set where
-// all three are so, so that one branch tells.
+// Is the record at an offset a good lot?
 fn is_good_lot(area: &[u8], newest: u64, at: usize) -> bool
     requires { ⌜ at + recordLength ≤ length (now area) ⌝ }
     ensures { λ r. ⌜ r ≡ isGoodLot newest (recordIn (part at recordLength (now (area .entry)))) ⌝ }
 {
-    if (replaying::head_at(area, at) as u64 ^ replaying::LOT as u64)
-        | little::get_u64(area, at + 12)
-        != 0
-    {
+    if !replaying::is_faultless(area, at) {
         return false;
     }
     may_follow(newest, records::get_record_at(area, at))

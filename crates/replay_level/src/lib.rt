@@ -4,9 +4,10 @@ ghost use mathlib.Core.Path.{_≡_};
 ghost use mathlib.Core.Bool.{false, true};
 ghost use Prim.Native.Nat.{_≤_, _<_};
 ghost use lib.ListN.{length};
+ghost use Rattle.plans.specs.Severities.{discontinued};
 ghost use Rattle.model.specs.Sizes.{areaLength, mostRecords};
 ghost use Rattle.records.specs.Records.{recordIn, recordAt};
-ghost use Rattle.replaying.specs.Replaying.{Ready, Replayed, noneWrong};
+ghost use Rattle.replaying.specs.Replaying.{Ready, Replayed, noneWrong, faultless};
 ghost use Rattle.replaying.specs.LotStreams.{mayFollow};
 ghost use Rattle.replay_level.specs.Carrying.{
   figuresIn,
@@ -101,16 +102,12 @@ fn enter(area: &[u8], plan: Plan, carried: Carried, i: usize) -> Step
     if state.level == level::DISCONTINUED {
         return Step::Fails;
     }
-    let at = sizes::HEADER_LENGTH + sizes::RECORD_LENGTH * i;
-    if replaying::head_at(area, at) != replaying::LOT {
-        return enter_stop(area, carried, i);
+    if !replaying::is_faultless(area, sizes::HEADER_LENGTH + sizes::RECORD_LENGTH * i) {
+        return enter_other(area, plan, carried, i);
     }
     let read = records::get_record(area, i);
     if !may_follow(carried, read) {
         return Step::Fails;
-    }
-    if !replaying::has_none_wrong(area, at) {
-        return enter_wrong_lot(plan, carried, read);
     }
     let after = state.judge(plan.option == 1, false);
     Step::Stands(Carried {
@@ -118,6 +115,21 @@ fn enter(area: &[u8], plan: Plan, carried: Carried, i: usize) -> Step
         accepted: carried.accepted + read.b as u64,
         newest: read.a as u64,
     })
+}
+
+// Enters the i-th record, which is no lot without fault: a stop, or a lot with something wrong.
+fn enter_other(area: &[u8], plan: Plan, carried: Carried, i: usize) -> Step
+    requires { ⌜ (length (now area) ≡ areaLength) × (i < mostRecords) × Bounded plan carried × (carried .state .level ≡ discontinued → ⊥) × (faultless (recordIn (recordAt (now area) i)) ≡ false) ⌝ }
+    ensures { λ r. ⌜ r ≡ stepOf plan carried (recordIn (recordAt (now (area .entry)) i)) ⌝ }
+{
+    if replaying::head_at(area, sizes::HEADER_LENGTH + sizes::RECORD_LENGTH * i) != replaying::LOT {
+        return enter_stop(area, carried, i);
+    }
+    let read = records::get_record(area, i);
+    if !may_follow(carried, read) {
+        return Step::Fails;
+    }
+    enter_wrong_lot(plan, carried, read)
 }
 
 // A stop moves a stream on reduced.

@@ -4,6 +4,7 @@ use mathlib.Core.Path.{_≡_, refl, sym, _∙_}
 use mathlib.Core.Bool.{Bool, true, false, _&&_}
 use mathlib.Core.List.{List}
 use native.Mathlib.Omega.{arith}
+use lib.Bits.{bitOr, bitXor}
 use lib.Dec.{eqb, leb}
 use lib.ListN.{length}
 use borrow.Author.Tests.{eqb-true, eqb-false, eq-eqb, ne-eqb}
@@ -13,7 +14,8 @@ use Rattle.model.specs.Sizes.{recordLength, headerLength, mostRecords}
 use Rattle.records.specs.declared.Record.{Record}
 use Rattle.records.specs.Records.{recordIn, recordAt}
 use Rattle.records.proofs.Laws.{record-at, record-read}
-use Rattle.replaying.specs.Replaying.{headOf, isStop, noneWrong}
+use Rattle.replaying.specs.Replaying.{headOf, isStop, noneWrong, faultless}
+use Rattle.replaying.proofs.Together.{one-and-zero}
 
 -- the head says kind, flag and the two zero bytes
 pub head-is : (r : Record) (k w : ℕ) → r .kind < 256 → r .flag < 256 → k < 256 → w < 256 → headOf r ≡ k + w * 256
@@ -69,12 +71,17 @@ module _ (area : List ℕ) (at : ℕ) (fits : at + recordLength ≤ length area)
       let third : at + 2 + 1 ≡ at + 3 = omega arith in
       rw (record-read area at, ← value-four at area (omega arith), ← value-two (at + 2) area (omega arith), third) (omega arith)
 
-  pub none-wrong-read : eqb (value (part (at + 12) 8 area)) 0 ≡ noneWrong (recordIn (part at recordLength area))
+  none-wrong-read : eqb (value (part (at + 12) 8 area)) 0 ≡ noneWrong (recordIn (part at recordLength area))
   unfolding noneWrong
   none-wrong-read =
       let next : at + 12 + 4 ≡ at + 16 = omega arith in
       rw (record-read area at, ← value-eight (at + 12) area (omega arith), next)
       (both-zero (value (part (at + 12) 4 area)) (value (part (at + 16) 4 area)))
+
+  pub faultless-read : (head : ℕ) → head ≡ headOf (recordIn (part at recordLength area))
+      → eqb (bitOr (bitXor head 1) (value (part (at + 12) 8 area))) 0 ≡ faultless (recordIn (part at recordLength area))
+  unfolding faultless
+  faultless-read head read = one-and-zero head _ ∙ rw (read, none-wrong-read)
 
 -- a record's first two bytes are below 256
 module _ (area : List ℕ) (i : ℕ) (bytes : AreBytes area) (room : i < mostRecords) where

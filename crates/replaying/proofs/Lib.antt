@@ -1,4 +1,5 @@
 -- Laws of reading an area in parts.
+pub mod Together
 pub mod Heads
 pub mod RecordForm
 pub mod Parts

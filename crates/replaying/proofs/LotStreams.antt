@@ -37,6 +37,7 @@ use Rattle.replaying.specs.Replaying.{
   headOf,
   isStop,
   noneWrong,
+  faultless,
   enteredIf,
   entered,
   recordsIn,
@@ -123,3 +124,14 @@ unfolding noneWrong
 none-wrong r e =
     let both = both-true (eqb (r .c) 0) (eqb (r .d) 0) e in
     (eqb-true (r .c) 0 (both .0), eqb-true (r .d) 0 (both .1))
+
+-- a lot without fault, and a lot with one
+pub faultless-lot : (r : Record) → faultless r ≡ true → (headOf r ≡ 1) × (noneWrong r ≡ true)
+unfolding faultless
+faultless-lot r e =
+    let both = both-true (eqb (headOf r) 1) (noneWrong r) e in
+    (eqb-true (headOf r) 1 (both .0), both .1)
+
+pub faulty-lot : (r : Record) → faultless r ≡ false → headOf r ≡ 1 → noneWrong r ≡ false
+unfolding faultless
+faulty-lot r e head = rw (eq-eqb (headOf r) 1 head) at e

@@ -52,9 +52,12 @@ headOf r = r .kind + r .flag * 256 + r .spare * 65536
 unfoldable pub isStop : Record → Bool
 isStop r = oneNumber r && cond (eqb (headOf r) 260) (leb (r .a) longestStop) (eqb (headOf r) 516 && eqb (r .a) 0)
 
--- a lot's record with nothing wrong in the sample, nor in all that was heard
+-- nothing wrong in the sample of a lot's record, nor in all that was heard; and a lot's record of which that is so
 unfoldable pub noneWrong : Record → Bool
 noneWrong r = eqb (r .c) 0 && eqb (r .d) 0
+
+unfoldable pub faultless : Record → Bool
+faultless r = eqb (headOf r) 1 && noneWrong r
 
 -- a record that some accepted call could have left as the i-th, after figures f
 unfoldable pub stands : Plan → Figures → ℕ → Record → Bool

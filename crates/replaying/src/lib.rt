@@ -6,7 +6,7 @@ ghost use lib.ListN.{length};
 ghost use Rattle.little.specs.Little.{part};
 ghost use Rattle.model.specs.Sizes.{recordLength};
 ghost use Rattle.records.specs.Records.{recordIn};
-ghost use Rattle.replaying.specs.Replaying.{headOf, isStop, noneWrong};
+ghost use Rattle.replaying.specs.Replaying.{headOf, isStop, faultless};
 use model::Figures;
 use plans::limits;
 use records::Record;
@@ -71,11 +71,13 @@ pub fn head_at(area: &[u8], at: usize) -> u32
     little::get_u32(area, at)
 }
 
-// Is nothing wrong in the sample of the record at an offset, a lot's, nor in all that was heard? The two counts are read as one number, so
-// that one comparison tells.
-pub fn has_none_wrong(area: &[u8], at: usize) -> bool
+// Is the record at an offset a lot's, with nothing wrong in the sample, nor in all that was heard? No bit is set where its head is a lot's
+// and the two counts, read as one number, are zero: so one branch tells.
+pub fn is_faultless(area: &[u8], at: usize) -> bool
     requires { ⌜ at + recordLength ≤ length (now area) ⌝ }
-    ensures { λ r. ⌜ r ≡ noneWrong (recordIn (part at recordLength (now (area .entry)))) ⌝ }
+    ensures { λ r. ⌜ r ≡ faultless (recordIn (part at recordLength (now (area .entry)))) ⌝ }
 {
-    little::get_u64(area, at + 12) == 0
+    let head = head_at(area, at) as u64;
+    let wrong = little::get_u64(area, at + 12);
+    (head ^ LOT as u64) | wrong == 0
 }
