@@ -4,11 +4,13 @@ use mathlib.Core.Path.{_≡_, refl, sym, ap, _∙_}
 use mathlib.Core.Bool.{Bool, true, false}
 use mathlib.Core.List.{List, [], _∷_, append-assoc}
 use native.Mathlib.Omega.{arith}
-use lib.Dec.{T}
+use lib.Dec.{T, eqb}
 use borrow.Author.Tests.{ne-eqb, not-false}
 use lib.ListN.{length}
-use Rattle.little.specs.Little.{written}
+use Rattle.little.specs.Little.{bytes, written}
 use Rattle.plans.specs.Limits.{largestLot}
+use Rattle.plans.specs.Verdicts.{acceptedOf}
+use Rattle.plans.specs.Continuous.{afterBlock}
 use Rattle.model.specs.declared.Plan.{Plan}
 use Rattle.model.specs.declared.Entry.{Entry}
 use Rattle.model.specs.declared.Entry.the-variants.{Lot, Run, Block, Stop}
@@ -16,11 +18,11 @@ use Rattle.model.specs.declared.Call.{Call}
 use Rattle.model.specs.declared.Call.the-variants.{Open, Enter, Back, Ask, Read}
 use Rattle.model.specs.declared.Figures.{Figures}
 use Rattle.model.specs.declared.Answer.{Answer}
-use Rattle.model.specs.Sizes.{recordLength, mostRecords}
+use Rattle.model.specs.Sizes.{recordLength, headerLength, mostRecords}
 use Rattle.records.specs.declared.Record.{Record}
-use Rattle.records.specs.Records.{recordIn, recordAt, figuresStart, LevelFits}
+use Rattle.records.specs.Records.{recordIn, recordAt, countStart, figuresStart, LevelFits}
 use Rattle.model.specs.Stations.{Station, unopened, opened, validPlan, isContinuous}
-use Rattle.model.specs.Figuring.{sampleAsked, stepped, started, figuresOf}
+use Rattle.model.specs.Figuring.{sampleAsked, verdictOn, acceptedBy, stepped, started, figuresOf}
 use Rattle.model.specs.Calls.{
   firstOf,
   entryRefusals,
@@ -30,6 +32,7 @@ use Rattle.model.specs.Calls.{
   gives,
   refused,
   entryAnswer,
+  lotFigure,
   readFigure,
   newestKind,
   answerOf,
@@ -51,14 +54,14 @@ use Rattle.model.specs.Area.{
   AreaOutcome,
   onArea,
 }
-use Rattle.model.proofs.Allowed.{room-for, passed, allowed-run, allowed-block, allowed-stop}
+use Rattle.model.proofs.Allowed.{room-for, passed}
 use Rattle.model.proofs.FigureBounds.{lot-size-range, stepped-within}
 use Rattle.model.proofs.AreaReading.{area-of-reading, part-record, records-in}
 use Rattle.model.proofs.Keeping.{accepted-station, accepted-answer, valid-opens}
 use Rattle.model.proofs.OnArea.{on-station, on-unsound, refused-station}
 use Rattle.replay.specs.declared.Standing.{Standing}
 use Rattle.replay.specs.Standing.{standingOf}
-use Rattle.listening.specs.Written.{rewritten, flagOf, FlagFits}
+use Rattle.listening.specs.Written.{rewritten}
 use Rattle.listening.proofs.Rewriting.{entered-area, taken-area, opened-area}
 use Rattle.listening.proofs.OnReading.{OpenedAt, read-unsound, read-unopened, read-plan, read-area, read-figures, read-count, level-fits}
 
@@ -134,6 +137,39 @@ module _ {area : List ℕ} {s : Standing} {es : List Entry} (at : OpenedAt 0 are
       (entered-area (s .plan) e es
       (room-for (s .plan) (figuresOf (s .plan) es) (length es) e (rw (at .brought, at .counted) at (sym same ∙ none)))))
 
+  -- the same, by the two writes
+  pub entered-by : (e : Entry) {n : ℕ} {r : Answer} {recorded after : List ℕ} {g : Figures}
+      → n ≡ firstOf (entryRefusals (s .plan) (s .figures) (s .count) e) → n ≡ 0
+      → g ≡ stepped (s .plan) e (s .figures) → r ≡ entryAnswer (s .plan) (s .figures) e
+      → recorded ≡ written (headerLength + recordLength * s .count) (recordOf e) area
+      → after ≡ written figuresStart (figureBytes g) (written countStart (bytes 2 (s .count + 1)) recorded)
+      → leaves r after ≡ onArea area (Enter e)
+  unfolding rewritten
+  entered-by e same none stepped-on given recorded left = entered e same none stepped-on given (left ∙ rw recorded refl)
+
+  -- and what each kind gives
+  pub lot-answer : (label N n d D : ℕ) {g : Figures} {r : Answer} → g ≡ stepped (s .plan) (Lot label N n d D) (s .figures)
+      → r ≡ gives (verdictOn (s .plan) (s .figures) d) (acceptedOf (verdictOn (s .plan) (s .figures) d) N D) (lotFigure (s .plan) g)
+      → r ≡ entryAnswer (s .plan) (s .figures) (Lot label N n d D)
+  unfolding entryAnswer acceptedBy
+  lot-answer label N n d D on given = given ∙ rw on refl
+
+  pub run-answer : (h w : ℕ) {g : Figures} {r : Answer} → g ≡ stepped (s .plan) (Run h w) (s .figures)
+      → r ≡ gives h (g .continuous .phase) 0 → r ≡ entryAnswer (s .plan) (s .figures) (Run h w)
+  unfolding entryAnswer acceptedBy
+  run-answer h w on given = given ∙ rw on refl
+
+  pub block-answer : (q w : ℕ) {g : Figures} {r : Answer} → g ≡ stepped (s .plan) (Block q w) (s .figures)
+      → r ≡ gives (afterBlock (s .plan .b) q (eqb w 1) (s .figures .continuous) .accepted)
+      (afterBlock (s .plan .b) q (eqb w 1) (s .figures .continuous) .«hear_back») (g .continuous .phase)
+      → r ≡ entryAnswer (s .plan) (s .figures) (Block q w)
+  unfolding entryAnswer acceptedBy
+  block-answer q w on given = given ∙ rw on refl
+
+  pub stop-answer : (why days : ℕ) {r : Answer} → r ≡ gives 0 0 0 → r ≡ entryAnswer (s .plan) (s .figures) (Stop why days)
+  unfolding entryAnswer
+  stop-answer why days given = given
+
   -- the level figures after an accepted entry are bytes
   pub after-fits : (e : Entry) → firstOf (entryRefusals (s .plan) (s .figures) (s .count) e) ≡ 0 → {g : Figures}
       → g ≡ stepped (s .plan) e (s .figures) → LevelFits (g .level)
@@ -202,14 +238,6 @@ back-taken {area} {s} {es = e ∷ es} at {last} {taken} {r} {after} some ended r
     by-call area Back r (opened (s .plan) (e ∷ es)) after (at .reads) (rw (ne-eqb (suc (length es)) 0 (λ z. omega arith)))
     (given ∙ ap (λ (k : ℕ). gives k 0 0) told)
     (left ∙ rw (ends, at .brought, read-area at) (taken-area (s .plan) e es room))
-
--- the flag of an accepted entry is a byte
-pub flag-fits : (p : Plan) (f : Figures) (n : ℕ) (e : Entry) → firstOf (entryRefusals p f n e) ≡ 0 → FlagFits e
-unfolding flagOf
-flag-fits p f n (Lot label N m d D) z = omega arith
-flag-fits p f n (Run h w) z = omega (arith, allowed-run p f n h w z .wrong)
-flag-fits p f n (Block q w) z = omega (arith, allowed-block p f n q w z .wrong)
-flag-fits p f n (Stop why days) z = omega (arith, allowed-stop p f n why days z .last)
 
 -- what an ask that is not refused is known to be
 pub allowed-ask : (p : Plan) (f : Figures) (N : ℕ) → firstOf (askRefusals p f N) ≡ 0

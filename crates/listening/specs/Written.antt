@@ -1,14 +1,16 @@
 -- An area with one record, the count and the figures written. Assumes nothing.
-use Prim.Native.Nat.{ℕ, _+_, _*_, _<_}
+use Prim.Native.Nat.{ℕ, _+_, _*_}
+use mathlib.Core.Path.{_≡_}
+use mathlib.Core.Bool.{true}
 use mathlib.Core.List.{List}
 use Rattle.little.specs.Little.{bytes, written}
 use Rattle.model.specs.declared.Plan.{Plan}
-use Rattle.model.specs.declared.Entry.{Entry}
-use Rattle.model.specs.declared.Entry.the-variants.{Lot, Run, Block, Stop}
 use Rattle.model.specs.declared.Figures.{Figures}
 use Rattle.model.specs.Sizes.{recordLength, headerLength}
-use Rattle.model.specs.Area.{figureBytes}
+use Rattle.model.specs.Area.{figureBytes, reading}
 use Rattle.records.specs.Records.{countStart, figuresStart}
+use Rattle.replay.specs.declared.Standing.{Standing}
+use Rattle.replay.specs.Standing.{standingOf}
 
 -- the i-th record, then the count, then the figures
 unfoldable pub rewritten : ℕ → List ℕ → ℕ → Figures → List ℕ → List ℕ
@@ -16,15 +18,10 @@ rewritten i bytesOfRecord count figures area =
     written figuresStart (figureBytes figures)
     (written countStart (bytes 2 count) (written (headerLength + recordLength * i) bytesOfRecord area))
 
--- the number that an entry's record holds as its flag is a byte
-unfoldable pub flagOf : Entry → ℕ
-flagOf (Lot label N n d D) = 0
-flagOf (Run h w) = w
-flagOf (Block q w) = w
-flagOf (Stop why days) = why
-
-abbrev pub FlagFits : Entry → Type 0
-FlagFits e = flagOf e < 256
+-- an area as it was read, in which the stream is opened
+pub record IsOpened (area : List ℕ) (s : Standing) : Type 0 where
+  pub said : s ≡ standingOf 0 (reading area)
+  pub isOpened : s .opened ≡ true
 
 -- Open's arguments as a plan
 abbrev pub planOf : ℕ → ℕ → ℕ → ℕ → Plan

@@ -1,18 +1,20 @@
 // The calls on one stream's area: read it, refuse or not, write what changed. Paper 01, "Calls".
 ghost use mathlib.Core.Path.{_≡_};
-ghost use Prim.Native.Nat.{_+_, _*_, _<_, _≤_};
+ghost use Prim.Native.Nat.{_<_, _≤_};
 ghost use lib.ListN.{length};
 ghost use Rattle.little.specs.Little.{bytes, written};
+ghost use Rattle.model.specs.declared.Entry.the-variants.{Lot, Run, Block, Stop};
 ghost use Rattle.model.specs.declared.Call.the-variants.{Open, Enter, Back, Ask, Read};
-ghost use Rattle.model.specs.Sizes.{areaLength, recordLength, headerLength, mostRecords};
+ghost use Rattle.model.specs.Sizes.{areaLength, recordLength, mostRecords};
 ghost use Rattle.model.specs.Calls.{refused as refusedBy};
-ghost use Rattle.model.specs.Area.{zeros, figureBytes, recordOf, onArea};
+ghost use Rattle.model.specs.Area.{zeros, figureBytes, onArea};
 ghost use Rattle.records.specs.Records.{countStart, figuresStart, LevelFits};
-ghost use Rattle.listening.specs.Written.{rewritten, FlagFits};
+ghost use Rattle.listening.specs.Written.{rewritten, IsOpened};
 use model::Answer;
 use model::Entry;
 use model::Figures;
 use model::Plan;
+use replay::Standing;
 use rules::answering;
 use rules::asking;
 use rules::plan;
@@ -39,7 +41,7 @@ pub fn open(area: &mut [u8], plan: Plan) -> u32
     0
 }
 
-// Enters a lot, run, block or stop. Its answer is made before anything is written, so that the figures before it need not be kept.
+// Enters a lot, run, block or stop.
 pub fn enter(area: &mut [u8], entry: Entry) -> Answer
     requires { ⌜ length (now area) ≡ areaLength ⌝ }
     ensures { λ r. ⌜ record { answer = r; area = now (area .exit) } ≡ onArea (now (area .entry)) (Enter entry) ⌝ }
@@ -51,15 +53,115 @@ pub fn enter(area: &mut [u8], entry: Entry) -> Answer
     if !standing.opened {
         return answering::refused(6);
     }
+    match entry {
+        Entry::Lot {
+            label,
+            size,
+            sample,
+            wrong,
+            wrong_in_all,
+        } => enter_lot(area, standing, label, size, sample, wrong, wrong_in_all),
+        Entry::Run { right, wrong } => enter_run(area, standing, right, wrong),
+        Entry::Block { heard, wrong } => enter_block(area, standing, heard, wrong),
+        Entry::Stop { why, days } => enter_stop(area, standing, why, days),
+    }
+}
+
+// Enters a lot. Its answer is made before anything is written, so that the figures before it need not be kept.
+fn enter_lot(
+    area: &mut [u8],
+    standing: Standing,
+    label: u32,
+    size: u32,
+    sample: u32,
+    wrong: u32,
+    wrong_in_all: u32,
+) -> Answer
+    requires { ⌜ (length (now area) ≡ areaLength) × IsOpened (now area) standing ⌝ }
+    ensures { λ r. ⌜ record { answer = r; area = now (area .exit) } ≡ onArea (now (area .entry)) (Enter (Lot label size sample wrong «wrong_in_all»)) ⌝ }
+{
     let count = standing.count;
-    let refusal = refusing::entry(standing.plan, standing.figures, count, entry);
+    let refusal = refusing::lot(
+        standing.plan,
+        standing.figures,
+        count,
+        label,
+        size,
+        sample,
+        wrong,
+        wrong_in_all,
+    );
     if refusal != 0 {
         return answering::refused(refusal);
     }
-    let after = stepping::entry(standing.plan, standing.figures, count, entry);
-    let answer = answering::entry(standing.plan, standing.figures, after, count, entry);
-    put_entry(area, count, after, entry);
+    let after = stepping::lot(
+        standing.plan,
+        standing.figures,
+        label,
+        size,
+        wrong,
+        wrong_in_all,
+    );
+    let answer = answering::lot(
+        standing.plan,
+        standing.figures,
+        after,
+        size,
+        wrong,
+        wrong_in_all,
+    );
+    records::put_record(area, count, 1, 0, label, size, wrong, wrong_in_all);
+    put_standing(area, count + 1, after);
     answer
+}
+
+// Enters a run.
+fn enter_run(area: &mut [u8], standing: Standing, right: u32, wrong: u32) -> Answer
+    requires { ⌜ (length (now area) ≡ areaLength) × IsOpened (now area) standing ⌝ }
+    ensures { λ r. ⌜ record { answer = r; area = now (area .exit) } ≡ onArea (now (area .entry)) (Enter (Run right wrong)) ⌝ }
+{
+    let count = standing.count;
+    let refusal = refusing::run(standing.plan, standing.figures, count, right, wrong);
+    if refusal != 0 {
+        return answering::refused(refusal);
+    }
+    let after = stepping::run(standing.plan, standing.figures, right, wrong);
+    records::put_record(area, count, 2, wrong as u8, right, 0, 0, 0);
+    put_standing(area, count + 1, after);
+    answering::run(after, right)
+}
+
+// Enters a block.
+fn enter_block(area: &mut [u8], standing: Standing, heard: u32, wrong: u32) -> Answer
+    requires { ⌜ (length (now area) ≡ areaLength) × IsOpened (now area) standing ⌝ }
+    ensures { λ r. ⌜ record { answer = r; area = now (area .exit) } ≡ onArea (now (area .entry)) (Enter (Block heard wrong)) ⌝ }
+{
+    let count = standing.count;
+    let refusal = refusing::block(standing.plan, standing.figures, count, heard, wrong);
+    if refusal != 0 {
+        return answering::refused(refusal);
+    }
+    let after = stepping::block(standing.plan, standing.figures, heard, wrong);
+    let answer = answering::block(standing.plan, standing.figures, after, heard, wrong);
+    records::put_record(area, count, 3, wrong as u8, heard, 0, 0, 0);
+    put_standing(area, count + 1, after);
+    answer
+}
+
+// Enters a stop.
+fn enter_stop(area: &mut [u8], standing: Standing, why: u32, days: u32) -> Answer
+    requires { ⌜ (length (now area) ≡ areaLength) × IsOpened (now area) standing ⌝ }
+    ensures { λ r. ⌜ record { answer = r; area = now (area .exit) } ≡ onArea (now (area .entry)) (Enter (Stop why days)) ⌝ }
+{
+    let count = standing.count;
+    let refusal = refusing::stop(standing.plan, standing.figures, count, why, days);
+    if refusal != 0 {
+        return answering::refused(refusal);
+    }
+    let after = stepping::stop(standing.plan, standing.figures, why, days);
+    records::put_record(area, count, 4, why as u8, days, 0, 0, 0);
+    put_standing(area, count + 1, after);
+    answering::gives(0, 0, 0)
 }
 
 // Takes the newest entry back. The reading sets it apart, and hands over the figures before it: they can't be had from those after.
@@ -125,15 +227,6 @@ pub fn read(area: &[u8]) -> Answer
     )
 }
 
-// Writes an entry as the next record, and the figures after it.
-fn put_entry(area: &mut [u8], count: usize, figures: Figures, entry: Entry)
-    requires { ⌜ (length (now area) ≡ areaLength) × (count < mostRecords) × FlagFits entry × LevelFits (figures .level) ⌝ }
-    ensures { λ _. ⌜ now (area .exit) ≡ rewritten count (recordOf entry) (count + 1) figures (now (area .entry)) ⌝ }
-{
-    put_record_of(area, count, entry);
-    put_standing(area, count + 1, figures);
-}
-
 // Clears the last record, and writes the figures before it.
 fn clear_entry(area: &mut [u8], last: usize, figures: Figures)
     requires { ⌜ (length (now area) ≡ areaLength) × (last < mostRecords) × LevelFits (figures .level) ⌝ }
@@ -150,32 +243,4 @@ fn put_standing(area: &mut [u8], count: usize, figures: Figures)
 {
     records::put_count(area, count);
     records::put_figures(area, figures);
-}
-
-// The record writer: an entry's record in the part of the store that is lent.
-fn put_record_of(area: &mut [u8], i: usize, entry: Entry)
-    requires { ⌜ (length (now area) ≡ areaLength) × (i < mostRecords) × FlagFits entry ⌝ }
-    ensures { λ _. ⌜ now (area .exit) ≡ written (headerLength + recordLength * i) (recordOf entry) (now (area .entry)) ⌝ }
-{
-    match entry {
-        Entry::Lot {
-            label,
-            size,
-            sample: _,
-            wrong,
-            wrong_in_all,
-        } => records::put_record(area, i, 1, 0, label, size, wrong, wrong_in_all),
-        Entry::Run { right, wrong } => records::put_record(area, i, 2, wrong as u8, right, 0, 0, 0),
-        Entry::Block { heard, wrong } => records::put_record(
-            area,
-            i,
-            3,
-            wrong as u8,
-            heard,
-            0,
-            0,
-            0,
-        ),
-        Entry::Stop { why, days } => records::put_record(area, i, 4, why as u8, days, 0, 0, 0),
-    }
 }

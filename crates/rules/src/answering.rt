@@ -1,25 +1,20 @@
 // What a call gives: paper 01, "Calls".
 ghost use mathlib.Core.Path.{_≡_};
 ghost use Prim.Native.Nat.{_≤_};
-ghost use lib.Dec.{T, eqb};
+ghost use lib.Dec.{eqb};
 ghost use Rattle.plans.specs.Limits.{largestInterval};
 ghost use Rattle.plans.specs.Verdicts.{acceptedOf};
 ghost use Rattle.plans.specs.Continuous.{afterBlock};
-ghost use Rattle.model.specs.Stations.{validPlan};
-ghost use Rattle.model.specs.Figuring.{verdictOn, stepped};
+ghost use Rattle.model.specs.Figuring.{verdictOn};
 ghost use Rattle.model.specs.Calls.{
   gives as givesThese,
   refused as refusedBy,
-  entryAnswer,
   lotFigure,
   readFigure,
-  firstOf,
-  entryRefusals,
 };
 use crate::asking;
 use crate::plan;
 use model::Answer;
-use model::Entry;
 use model::Figures;
 use model::Plan;
 use plans::LotSize;
@@ -49,25 +44,6 @@ pub fn gives(first: u32, second: u32, third: u32) -> Answer
     }
 }
 
-// What an accepted entry gives, from the figures before and after it.
-pub fn entry(plan: Plan, figures: Figures, after: Figures, count: usize, entry: Entry) -> Answer
-    requires { ⌜ T (validPlan plan) × (firstOf (entryRefusals plan figures count entry) ≡ 0) × (after ≡ stepped plan entry figures) ⌝ }
-    ensures { λ r. ⌜ r ≡ entryAnswer plan figures entry ⌝ }
-{
-    match entry {
-        Entry::Lot {
-            label: _,
-            size,
-            sample: _,
-            wrong,
-            wrong_in_all,
-        } => lot(plan, figures, after, size, wrong, wrong_in_all),
-        Entry::Run { right, wrong: _ } => run(after, right),
-        Entry::Block { heard, wrong } => block(plan, figures, after, heard, wrong),
-        Entry::Stop { why: _, days: _ } => gives(0, 0, 0),
-    }
-}
-
 // Credit, or level, or c, in sampling 65,536 + u.
 pub fn read_figure(plan: Plan, figures: Figures) -> u32
     ensures { λ r. ⌜ r ≡ readFigure plan figures ⌝ }
@@ -94,7 +70,8 @@ fn lot_figure(plan: Plan, figures: Figures) -> u32
     state.level
 }
 
-fn lot(
+// What an accepted lot gives, from the figures before and after it.
+pub fn lot(
     plan: Plan,
     figures: Figures,
     after: Figures,
@@ -110,14 +87,16 @@ fn lot(
     gives(verdict, accepted, lot_figure(plan, after))
 }
 
-fn run(after: Figures, right: u32) -> Answer
+// What an accepted run gives, from the figures after it.
+pub fn run(after: Figures, right: u32) -> Answer
     ensures { λ r. ⌜ r ≡ givesThese right (after .continuous .phase) 0 ⌝ }
 {
     let state = after.continuous;
     gives(right, state.phase as u32, 0)
 }
 
-fn block(plan: Plan, figures: Figures, after: Figures, heard: u32, wrong: u32) -> Answer
+// What an accepted block gives, from the figures before and after it.
+pub fn block(plan: Plan, figures: Figures, after: Figures, heard: u32, wrong: u32) -> Answer
     requires { ⌜ (1 ≤ heard) × (heard ≤ plan .b) × (plan .b ≤ largestInterval) ⌝ }
     ensures { λ r. ⌜ r ≡ givesThese (afterBlock (plan .b) heard (eqb wrong 1) (figures .continuous) .accepted) (afterBlock (plan .b) heard (eqb wrong 1) (figures .continuous) .«hear_back») (after .continuous .phase) ⌝ }
 {

@@ -20,7 +20,6 @@ ghost use Rattle.model.specs.Calls.{
 ghost use Rattle.model.specs.FigureBounds.{FiguresWithin};
 use crate::asking;
 use crate::plan;
-use model::Entry;
 use model::Figures;
 use model::Plan;
 use model::sizes::MOST_RECORDS;
@@ -29,34 +28,6 @@ use plans::level;
 use plans::limits;
 use plans::stops;
 use plans::verdict;
-
-// The refusal of an entry.
-pub fn entry(plan: Plan, figures: Figures, count: usize, entry: Entry) -> u32
-    requires { ⌜ T (validPlan plan) × FiguresWithin count figures × (count ≤ mostRecords) ⌝ }
-    ensures { λ r. ⌜ r ≡ firstOf (entryRefusals plan figures count entry) ⌝ }
-{
-    match entry {
-        Entry::Lot {
-            label,
-            size,
-            sample,
-            wrong,
-            wrong_in_all,
-        } => lot(
-            plan,
-            figures,
-            count,
-            label,
-            size,
-            sample,
-            wrong,
-            wrong_in_all,
-        ),
-        Entry::Run { right, wrong } => run(plan, figures, count, right, wrong),
-        Entry::Block { heard, wrong } => block(plan, figures, count, heard, wrong),
-        Entry::Stop { why, days } => stop(plan, figures, count, why, days),
-    }
-}
 
 // The refusal of a lot.
 pub fn lot(

@@ -2,21 +2,19 @@
 ghost use mathlib.Core.Path.{_≡_};
 ghost use mathlib.Core.Bool.{cond};
 ghost use Prim.Native.Nat.{ℕ, _+_, _-_, _≤_};
-ghost use lib.Dec.{T, eqb, ltb};
+ghost use lib.Dec.{ltb};
 ghost use Rattle.plans.specs.Credit.{creditAfter};
 ghost use Rattle.plans.specs.Levels.{judgedLot, metStop};
 ghost use Rattle.plans.specs.Continuous.{afterStop};
 ghost use Rattle.plans.specs.Limits.{largestLot, largestCredit, largestClearance, largestInterval};
 ghost use Rattle.plans.specs.LevelBounds.{LevelWithin};
 ghost use Rattle.model.specs.declared.Entry.the-variants.{Lot, Run, Block, Stop};
-ghost use Rattle.model.specs.Stations.{validPlan, isCredit, isLevel, isContinuous, hasOption};
+ghost use Rattle.model.specs.Stations.{isCredit, isLevel, isContinuous, hasOption};
 ghost use Rattle.model.specs.Sizes.{mostRecords};
 ghost use Rattle.model.specs.Figuring.{stepped, withContinuous};
-ghost use Rattle.model.specs.Calls.{firstOf, entryRefusals};
-ghost use Rattle.model.specs.FigureBounds.{FiguresWithin, FiguresWithRoom};
+ghost use Rattle.model.specs.FigureBounds.{FiguresWithRoom};
 use crate::asking;
 use crate::plan;
-use model::Entry;
 use model::Figures;
 use model::Plan;
 use plans::LotSize;
@@ -25,27 +23,8 @@ use plans::credit::Credit;
 use plans::level::LevelState;
 use plans::verdict;
 
-// The figures after an entry that was accepted.
-pub fn entry(plan: Plan, figures: Figures, count: usize, entry: Entry) -> Figures
-    requires { ⌜ T (validPlan plan) × FiguresWithin count figures × (firstOf (entryRefusals plan figures count entry) ≡ 0) ⌝ }
-    ensures { λ r. ⌜ r ≡ stepped plan entry figures ⌝ }
-{
-    match entry {
-        Entry::Lot {
-            label,
-            size,
-            sample: _,
-            wrong,
-            wrong_in_all,
-        } => lot(plan, figures, label, size, wrong, wrong_in_all),
-        Entry::Run { right, wrong } => run(plan, figures, right, wrong),
-        Entry::Block { heard, wrong } => block(plan, figures, heard, wrong),
-        Entry::Stop { why, days } => stop(plan, figures, why, days),
-    }
-}
-
 // The figures after a lot, whatever its sample was.
-fn lot(
+pub fn lot(
     plan: Plan,
     figures: Figures,
     label: u32,
@@ -71,7 +50,7 @@ fn lot(
 }
 
 // The figures after a run.
-fn run(plan: Plan, figures: Figures, right: u32, wrong: u32) -> Figures
+pub fn run(plan: Plan, figures: Figures, right: u32, wrong: u32) -> Figures
     requires { ⌜ FiguresWithRoom figures × (figures .continuous .count + right ≤ plan .a) × (plan .a ≤ largestClearance) ⌝ }
     ensures { λ r. ⌜ r ≡ stepped plan (Run right wrong) figures ⌝ }
 {
@@ -81,7 +60,7 @@ fn run(plan: Plan, figures: Figures, right: u32, wrong: u32) -> Figures
 }
 
 // The figures after a block.
-fn block(plan: Plan, figures: Figures, heard: u32, wrong: u32) -> Figures
+pub fn block(plan: Plan, figures: Figures, heard: u32, wrong: u32) -> Figures
     requires { ⌜ FiguresWithRoom figures × (1 ≤ heard) × (heard ≤ plan .b) × (plan .b ≤ largestInterval) ⌝ }
     ensures { λ r. ⌜ r ≡ stepped plan (Block heard wrong) figures ⌝ }
 {
@@ -91,7 +70,7 @@ fn block(plan: Plan, figures: Figures, heard: u32, wrong: u32) -> Figures
 }
 
 // The figures after a stop.
-fn stop(plan: Plan, figures: Figures, why: u32, days: u32) -> Figures
+pub fn stop(plan: Plan, figures: Figures, why: u32, days: u32) -> Figures
     ensures { λ r. ⌜ r ≡ stepped plan (Stop why days) figures ⌝ }
 {
     let credit = figures.credit;
