@@ -176,8 +176,8 @@ fn print_calls(rows: &[Row], noise: f64) {
 Time of one call in ns, warm: the same store again and again, its area in the cache. Ours: the proved calls, by their Rust wrapper.
 (a): the independent implementation. (b): safe Rust written for speed. (c): the floor, one pass that adds up the area's 2,608 bytes
 in words of eight. {PASSES} passes over all rows; in each, {ROUNDS} rounds of {CALLS_A_ROUND} calls of ours, (b), (a) (one call),
-(b) again and (c), with the code at each of four places in memory. The best round counts, and ± is how far the median at the last
-place lies above it. After a call that changes the store, the header and the record are put back from a copy; that alone is measured
+(b) again and (c), with the code at each of four places in memory, three times each. The best round counts, and ± is how far the median
+of the last run lies above it. After a call that changes the store, the header and the record are put back from a copy; that alone is measured
 too, and taken off all times. Refusal 7: such a plan has no such call; 9: no place is free.
 
 Ours and (b) gave the answers and left the bytes of (a), here, and before on {SEEDS} random lists of {RANDOM_CALLS} calls and on

@@ -28,7 +28,7 @@ use words::Words;
 pub fn open(store: &mut [u8], stream: u32, kind: u32, option: u32, a: u32, b: u32) -> Answer
     ensures { λ r. ⌜ record { answer = r; store = now (store .exit) } ≡ onStore (now (store .entry)) (on stream (Open (planOf kind option a b))) ⌝ }
 {
-    answering::refused(open_as(store, stream, Plan { kind, option, a, b }))
+    answering::refused(open_as(store, stream, kind, option, a, b))
 }
 
 // Enters a lot.
@@ -121,7 +121,14 @@ pub fn make(store: &mut [u8], stream: u32, call: Call) -> Answer
     ensures { λ r. ⌜ record { answer = r; store = now (store .exit) } ≡ onStore (now (store .entry)) (on stream call) ⌝ }
 {
     match call {
-        Call::Open(plan) => answering::refused(open_as(store, stream, plan)),
+        Call::Open(plan) => answering::refused(open_as(
+            store,
+            stream,
+            plan.kind,
+            plan.option,
+            plan.a,
+            plan.b,
+        )),
         Call::Enter(entry) => words::unpacked(enter_packed(store, stream, entry)),
         Call::Back => back(store, stream),
         Call::Ask(size) => ask(store, stream, size),
@@ -130,8 +137,8 @@ pub fn make(store: &mut [u8], stream: u32, call: Call) -> Answer
 }
 
 // Opens a stream: gives the refusal, or 0.
-fn open_as(store: &mut [u8], stream: u32, plan: Plan) -> u32
-    ensures { λ r. ⌜ record { answer = refusedBy r; store = now (store .exit) } ≡ onStore (now (store .entry)) (on stream (Open plan)) ⌝ }
+fn open_as(store: &mut [u8], stream: u32, kind: u32, option: u32, a: u32, b: u32) -> u32
+    ensures { λ r. ⌜ record { answer = refusedBy r; store = now (store .exit) } ≡ onStore (now (store .entry)) (on stream (Open (planOf kind option a b))) ⌝ }
 {
     let refusal = refusal_of(store.len(), stream);
     if refusal != 0 {
@@ -139,7 +146,7 @@ fn open_as(store: &mut [u8], stream: u32, plan: Plan) -> u32
     }
     let start = start_of(stream);
     let end = start + sizes::AREA_LENGTH;
-    area::open(&mut store[start..end], plan)
+    area::open(&mut store[start..end], Plan { kind, option, a, b })
 }
 
 // Enters anything, for five callers: compiled as a function of its own, it hands its answer over in memory, and so in words.
