@@ -82,15 +82,12 @@ pub fn read(area: &[u8], newest: usize) -> Standing
     read_records(area, plan, count, newest)
 }
 
-// What an area says whose header has a valid plan and a count that fits. Behind the records it is looked at first, while there is
-// nothing yet to keep in registers. The records are replayed once: those before the newest, then the newest.
+// What an area says whose header has a valid plan and a count that fits. The records are replayed once: those before the newest, then
+// the newest. Behind them it is looked at last: what a call before wrote there is then no longer on its way to memory.
 fn read_records(area: &[u8], plan: Plan, count: usize, newest: usize) -> Standing
     requires { ⌜ Headed (now area) plan count ⌝ }
     ensures { λ r. ⌜ r ≡ standingOf newest (reading (now (area .entry))) ⌝ }
 {
-    if !records::is_zero_from(area, sizes::HEADER_LENGTH + sizes::RECORD_LENGTH * count) {
-        return nothing(false);
-    }
     let first = without(count, newest);
     let older = replay(area, plan, plan::started(plan), 0, first);
     if !older.sound {
@@ -98,6 +95,9 @@ fn read_records(area: &[u8], plan: Plan, count: usize, newest: usize) -> Standin
     }
     let before = older.figures;
     if !fits_header(area, plan, before, first, count) {
+        return nothing(false);
+    }
+    if !records::is_zero_from(area, sizes::HEADER_LENGTH + sizes::RECORD_LENGTH * count) {
         return nothing(false);
     }
     Standing {

@@ -8,6 +8,67 @@ use borrow.Author.Needs.{needs}
 use Rattle.replay.proofs.read_records.Statement.{statement}
 use Rattle.replay.proofs.read_records.Tie as tie
 
+without-requires : tie.Need-without-requires
+without-requires c κs = search needs
+
+started-requires : tie.Need-started-requires
+started-requires c κs = search needs
+
+replay-requires : tie.Need-replay-requires
+replay-requires c κs =
+    let cut = c .before in
+    let header = cut .before .before .pre in
+    record {
+      whole = header .whole;
+      valid = header .valid;
+      inOrder = omega arith;
+      room = omega (arith, header .room, cut .without .ensures);
+      stood = stand-none _ _;
+      brought = c .started .ensures ∙ sym (figures-none _ _);
+    }
+
+nothing-requires : tie.Need-nothing-requires
+nothing-requires c κs = search needs
+
+returns : tie.Need-returns
+returns c =
+    let replayed = c .before .before .before in
+    let cut = replayed .before .before in
+    let start = cut .before .before in
+    let older = replayed .replay in
+    c .nothing .ensures
+    ∙ says-failed (start .args .newest) (start .args .area .now) (start .args .plan) (start .args .count) (start .pre) (older .result) _
+    (omega (arith, cut .without .ensures)) (older .ensures) (not-true (older .result .sound) (c .before .if1 .taken))
+
+fits-header-requires : tie.Need-fits-header-requires
+fits-header-requires c κs =
+    let stood = c .before in
+    let replayed = stood .before .before in
+    let cut = replayed .before .before in
+    let header = cut .before .before .pre in
+    let older = replayed .replay in
+    let sound = not-false (older .result .sound) (stood .if1 .left) in
+    record {
+      whole = header .whole;
+      valid = header .valid;
+      inOrder = omega (arith, cut .without .ensures);
+      room = header .room;
+      stood = sym (older .ensures .allStand) ∙ sound;
+      brought = older .ensures .figuresAfter sound;
+    }
+
+nothing-requires-2 : tie.Need-nothing-requires-2
+nothing-requires-2 c κs = search needs
+
+returns-2 : tie.Need-returns-2
+returns-2 c =
+    let compared = c .before .before in
+    let start = compared .before .before .before .before .before .before .before .before in
+    let test = compared .fits-header in
+    c .nothing2 .ensures
+    ∙ says-other (start .args .newest) (start .args .area .now) (start .args .plan) (start .args .count) (start .pre) (test .result) (test .ensures)
+    (not-true (test .result) (c .before .if2 .taken))
+
 mul-is-zero-from : tie.Need-mul-is-zero-from
 mul-is-zero-from c = search needs
 
@@ -17,99 +78,51 @@ add-is-zero-from c = search needs
 is-zero-from-requires : tie.Need-is-zero-from-requires
 is-zero-from-requires c κs = search needs
 
-nothing-requires : tie.Need-nothing-requires
-nothing-requires c κs = search needs
-
-returns : tie.Need-returns
-returns c =
-    let start = c .before .before .before .before .args in
-    let test = c .before .before .is-zero-from in
-    c .nothing .ensures
-    ∙ says-more (start .newest) (start .area .now) (start .plan) (start .count) (c .before .before .before .before .pre) (test .result) (test .ensures)
-    (not-true (test .result) (c .before .if1 .taken))
-
-without-requires : tie.Need-without-requires
-without-requires c κs = search needs
-
-started-requires : tie.Need-started-requires
-started-requires c κs = search needs
-
-replay-requires : tie.Need-replay-requires
-replay-requires c κs =
-    let header = c .before .before .before .before .before .pre in
-    record {
-      whole = header .whole;
-      valid = header .valid;
-      inOrder = omega arith;
-      room = omega (arith, header .room, c .before .without .ensures);
-      stood = stand-none _ _;
-      brought = c .started .ensures ∙ sym (figures-none _ _);
-    }
-
-nothing-requires-2 : tie.Need-nothing-requires-2
-nothing-requires-2 c κs = search needs
-
-returns-2 : tie.Need-returns-2
-returns-2 c =
-    let start = c .before .before .before .before .before .before .before .before .before .args in
-    let older = c .before .before .before .replay in
-    c .nothing2 .ensures
-    ∙ says-failed (start .newest) (start .area .now) (start .plan) (start .count) (c .before .before .before .before .before .before .before .before .before .pre) (older .result) _
-    (omega (arith, c .before .before .before .before .before .without .ensures)) (older .ensures) (not-true (older .result .sound) (c .before .if2 .taken))
-
-fits-header-requires : tie.Need-fits-header-requires
-fits-header-requires c κs =
-    let header = c .before .before .before .before .before .before .before .before .before .pre in
-    let older = c .before .before .before .replay in
-    let sound = not-false (older .result .sound) (c .before .if2 .left) in
-    record {
-      whole = header .whole;
-      valid = header .valid;
-      inOrder = omega (arith, c .before .before .before .before .before .without .ensures);
-      room = header .room;
-      stood = sym (older .ensures .allStand) ∙ sound;
-      brought = older .ensures .figuresAfter sound;
-    }
-
 nothing-requires-3 : tie.Need-nothing-requires-3
 nothing-requires-3 c κs = search needs
 
 returns-3 : tie.Need-returns-3
 returns-3 c =
-    let start = c .before .before .before .before .before .before .before .before .before .before .before .before .args in
-    let test = c .before .before .fits-header in
+    let looked = c .before .before in
+    let start = looked .before .before .before .before .before .before .before .before .before .before in
+    let test = looked .is-zero-from in
     c .nothing3 .ensures
-    ∙ says-other (start .newest) (start .area .now) (start .plan) (start .count) (c .before .before .before .before .before .before .before .before .before .before .before .before .pre) (test .result) (test .ensures)
+    ∙ says-more (start .args .newest) (start .args .area .now) (start .args .plan) (start .args .count) (start .pre) (test .result) (test .ensures)
     (not-true (test .result) (c .before .if3 .taken))
 
 returns-4 : tie.Need-returns-4
 returns-4 c =
-    let start = c .before .before .before .before .before .before .before .before .before .before .before .args in
-    let older = c .before .before .before .before .before .replay in
-    let first = c .before .before .before .before .before .before .before .without .ensures in
-    let fits = c .before .fits-header in
-    let clear = c .before .before .before .before .before .before .before .before .before .is-zero-from in
-    let bytes : AreBytes (start .area .now) = λ k. c .before .before .before .before .before .before .before .before .before .before .shared-slice-known .given k .fits in
-    says-opened (start .newest) (start .area .now) (start .plan) (start .count) (c .before .before .before .before .before .before .before .before .before .before .before .pre) (older .result .figures) bytes
-    (rw first at (older .ensures .figuresAfter (not-false (older .result .sound) (c .before .before .before .if2 .left))))
-    (fits .ensures .shows (not-false (fits .result) (c .if3 .left)))
-    (clear .ensures .shows (not-false (clear .result) (c .before .before .before .before .before .before .before .before .if1 .left)))
+    let looked = c .before in
+    let fitting = looked .before in
+    let compared = fitting .before in
+    let stood = compared .before .before in
+    let replayed = stood .before .before in
+    let cut = replayed .before .before in
+    let start = cut .before .before in
+    let older = replayed .replay in
+    let fits = compared .fits-header in
+    let clear = looked .is-zero-from in
+    let bytes : AreBytes (start .args .area .now) = λ k. cut .before .shared-slice-known .given k .fits in
+    says-opened (start .args .newest) (start .args .area .now) (start .args .plan) (start .args .count) (start .pre) (older .result .figures) bytes
+    (rw (cut .without .ensures) at (older .ensures .figuresAfter (not-false (older .result .sound) (stood .if1 .left))))
+    (fits .ensures .shows (not-false (fits .result) (fitting .if2 .left)))
+    (clear .ensures .shows (not-false (clear .result) (c .if3 .left)))
 
 pub read-records-spec : {M : Type 1} → statement M
 read-records-spec =
     tie.close
     (tie.spec
-    mul-is-zero-from
-    add-is-zero-from
-    is-zero-from-requires
-    nothing-requires
-    returns
     without-requires
     started-requires
     replay-requires
+    nothing-requires
+    returns
+    fits-header-requires
     nothing-requires-2
     returns-2
-    fits-header-requires
+    mul-is-zero-from
+    add-is-zero-from
+    is-zero-from-requires
     nothing-requires-3
     returns-3
     returns-4)
