@@ -18,8 +18,8 @@ use plans::continuous::Continuous;
 use plans::credit::Credit;
 use plans::level::LevelState;
 
-// So many bytes are looked at in one go where zeros are searched: a quarter of the records.
-const WINDOW_LENGTH: usize = RECORD_LENGTH * 32;
+// So many bytes are looked at in one go where zeros are searched: an eighth of the records.
+const WINDOW_LENGTH: usize = RECORD_LENGTH * 16;
 
 // A record as it stands in the bytes, whatever its kind.
 pub struct Record {
@@ -178,21 +178,19 @@ pub fn is_zero_from(area: &[u8], from: usize) -> bool
     is_zero_in(area, at, AREA_LENGTH)
 }
 
-// Is every byte zero from one index to another? The loop looks for the largest and runs to its end whatever it finds: so it is compiled
-// to steps of many bytes.
+// Is every byte zero from one index to another? The loop puts them together bit by bit, and runs to its end whatever it finds: so it is
+// compiled to steps of many bytes.
 fn is_zero_in(area: &[u8], from: usize, to: usize) -> bool
     requires { ⌜ (length (now area) ≡ areaLength) × (from ≤ to) × (to ≤ areaLength) ⌝ }
     ensures { λ r. ⌜ Decides r (ZeroBetween (now (area .entry)) from to) ⌝ }
 {
-    let mut most: u8 = 0;
+    let mut bits: u8 = 0;
     let mut i = from;
     while i < to {
-        if most < area[i] {
-            most = area[i];
-        }
+        bits = bits | area[i];
         i += 1;
     }
-    most == 0
+    bits == 0
 }
 
 // Writes the start of a plan or of a record: its kind, a plan's option or a record's flag, and two zeros, which are the count where a

@@ -83,7 +83,8 @@ pub fn read(area: &[u8], newest: usize) -> Standing
 }
 
 // What an area says whose header has a valid plan and a count that fits. The records are replayed once: those before the newest, then
-// the newest. Behind them it is looked at last: what a call before wrote there is then no longer on its way to memory.
+// the newest. Behind them it is looked at in between: what a call before wrote there is then no longer on its way to memory, and the
+// figures, which the replay hands over in memory, have arrived when they are compared.
 fn read_records(area: &[u8], plan: Plan, count: usize, newest: usize) -> Standing
     requires { ⌜ Headed (now area) plan count ⌝ }
     ensures { λ r. ⌜ r ≡ standingOf newest (reading (now (area .entry))) ⌝ }
@@ -94,10 +95,10 @@ fn read_records(area: &[u8], plan: Plan, count: usize, newest: usize) -> Standin
         return nothing(false);
     }
     let before = older.figures;
-    if !fits_header(area, plan, before, first, count) {
+    if !records::is_zero_from(area, sizes::HEADER_LENGTH + sizes::RECORD_LENGTH * count) {
         return nothing(false);
     }
-    if !records::is_zero_from(area, sizes::HEADER_LENGTH + sizes::RECORD_LENGTH * count) {
+    if !fits_header(area, plan, before, first, count) {
         return nothing(false);
     }
     Standing {

@@ -16,7 +16,7 @@ use Rattle.model.proofs.Allowed.{AllowedRun, AllowedBlock, allowed-lot, allowed
 use Rattle.records.specs.declared.Record.{Record}
 use Rattle.replaying.specs.Replaying.{entryOf, oneNumber, NoMore, wellFormed, isStop, stands, entered, unsoundAt}
 use Rattle.replaying.proofs.Answers.{lot-of, run-of, block-of, stop-of, accepted-zero, no-more}
-use Rattle.replaying.proofs.Together.{either-bit}
+use Rattle.records.proofs.Together.{either-bit}
 use Rattle.replaying.proofs.Heads.{both-zero}
 use Rattle.replaying.proofs.Stops.{stop-accepts}
 

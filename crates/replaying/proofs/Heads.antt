@@ -15,7 +15,7 @@ use Rattle.records.specs.declared.Record.{Record}
 use Rattle.records.specs.Records.{recordIn, recordAt}
 use Rattle.records.proofs.Laws.{record-at, record-read}
 use Rattle.replaying.specs.Replaying.{headOf, isStop, noneWrong, faultless}
-use Rattle.replaying.proofs.Together.{one-and-zero}
+use Rattle.records.proofs.Together.{one-and-zero}
 
 -- the head says kind, flag and the two zero bytes
 pub head-is : (r : Record) (k w : ℕ) → r .kind < 256 → r .flag < 256 → k < 256 → w < 256 → headOf r ≡ k + w * 256

@@ -1,5 +1,4 @@
 -- Laws of reading an area in parts.
-pub mod Together
 pub mod Heads
 pub mod RecordForm
 pub mod Parts

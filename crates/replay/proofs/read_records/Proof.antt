@@ -40,9 +40,30 @@ returns c =
     ∙ says-failed (start .args .newest) (start .args .area .now) (start .args .plan) (start .args .count) (start .pre) (older .result) _
     (omega (arith, cut .without .ensures)) (older .ensures) (not-true (older .result .sound) (c .before .if1 .taken))
 
+mul-is-zero-from : tie.Need-mul-is-zero-from
+mul-is-zero-from c = search needs
+
+add-is-zero-from : tie.Need-add-is-zero-from
+add-is-zero-from c = search needs
+
+is-zero-from-requires : tie.Need-is-zero-from-requires
+is-zero-from-requires c κs = search needs
+
+nothing-requires-2 : tie.Need-nothing-requires-2
+nothing-requires-2 c κs = search needs
+
+returns-2 : tie.Need-returns-2
+returns-2 c =
+    let looked = c .before .before in
+    let start = looked .before .before .before .before .before .before .before .before in
+    let test = looked .is-zero-from in
+    c .nothing2 .ensures
+    ∙ says-more (start .args .newest) (start .args .area .now) (start .args .plan) (start .args .count) (start .pre) (test .result) (test .ensures)
+    (not-true (test .result) (c .before .if2 .taken))
+
 fits-header-requires : tie.Need-fits-header-requires
 fits-header-requires c κs =
-    let stood = c .before in
+    let stood = c .before .before .before in
     let replayed = stood .before .before in
     let cut = replayed .before .before in
     let header = cut .before .before .pre in
@@ -57,45 +78,24 @@ fits-header-requires c κs =
       brought = older .ensures .figuresAfter sound;
     }
 
-nothing-requires-2 : tie.Need-nothing-requires-2
-nothing-requires-2 c κs = search needs
-
-returns-2 : tie.Need-returns-2
-returns-2 c =
-    let compared = c .before .before in
-    let start = compared .before .before .before .before .before .before .before .before in
-    let test = compared .fits-header in
-    c .nothing2 .ensures
-    ∙ says-other (start .args .newest) (start .args .area .now) (start .args .plan) (start .args .count) (start .pre) (test .result) (test .ensures)
-    (not-true (test .result) (c .before .if2 .taken))
-
-mul-is-zero-from : tie.Need-mul-is-zero-from
-mul-is-zero-from c = search needs
-
-add-is-zero-from : tie.Need-add-is-zero-from
-add-is-zero-from c = search needs
-
-is-zero-from-requires : tie.Need-is-zero-from-requires
-is-zero-from-requires c κs = search needs
-
 nothing-requires-3 : tie.Need-nothing-requires-3
 nothing-requires-3 c κs = search needs
 
 returns-3 : tie.Need-returns-3
 returns-3 c =
-    let looked = c .before .before in
-    let start = looked .before .before .before .before .before .before .before .before .before .before in
-    let test = looked .is-zero-from in
+    let compared = c .before .before in
+    let start = compared .before .before .before .before .before .before .before .before .before .before in
+    let test = compared .fits-header in
     c .nothing3 .ensures
-    ∙ says-more (start .args .newest) (start .args .area .now) (start .args .plan) (start .args .count) (start .pre) (test .result) (test .ensures)
+    ∙ says-other (start .args .newest) (start .args .area .now) (start .args .plan) (start .args .count) (start .pre) (test .result) (test .ensures)
     (not-true (test .result) (c .before .if3 .taken))
 
 returns-4 : tie.Need-returns-4
 returns-4 c =
-    let looked = c .before in
-    let fitting = looked .before in
-    let compared = fitting .before in
-    let stood = compared .before .before in
+    let compared = c .before in
+    let clear-behind = compared .before in
+    let looked = clear-behind .before in
+    let stood = looked .before .before in
     let replayed = stood .before .before in
     let cut = replayed .before .before in
     let start = cut .before .before in
@@ -105,8 +105,8 @@ returns-4 c =
     let bytes : AreBytes (start .args .area .now) = λ k. cut .before .shared-slice-known .given k .fits in
     says-opened (start .args .newest) (start .args .area .now) (start .args .plan) (start .args .count) (start .pre) (older .result .figures) bytes
     (rw (cut .without .ensures) at (older .ensures .figuresAfter (not-false (older .result .sound) (stood .if1 .left))))
-    (fits .ensures .shows (not-false (fits .result) (fitting .if2 .left)))
-    (clear .ensures .shows (not-false (clear .result) (c .if3 .left)))
+    (fits .ensures .shows (not-false (fits .result) (c .if3 .left)))
+    (clear .ensures .shows (not-false (clear .result) (clear-behind .if2 .left)))
 
 pub read-records-spec : {M : Type 1} → statement M
 read-records-spec =
@@ -117,12 +117,12 @@ read-records-spec =
     replay-requires
     nothing-requires
     returns
-    fits-header-requires
-    nothing-requires-2
-    returns-2
     mul-is-zero-from
     add-is-zero-from
     is-zero-from-requires
+    nothing-requires-2
+    returns-2
+    fits-header-requires
     nothing-requires-3
     returns-3
     returns-4)

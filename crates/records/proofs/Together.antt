@@ -13,6 +13,10 @@ either-bit zero y = refl
 either-bit (suc x) y =
     rw (eqb·suc-zero x) (ne-eqb (bitOr (suc x) y) 0 (λ e. omega (arith, or-add-and (suc x) y, and-le-r (suc x) y)))
 
+-- two that have no bit together have none
+pub no-bits : (x y : ℕ) → bitOr x y ≡ 0 → (x ≡ 0) × (y ≡ 0)
+no-bits x y e = (omega (arith, or-add-and x y, and-le-r x y), omega (arith, or-add-and x y, and-le-l x y))
+
 -- only 1 differs from 1 in no bit
 no-bit-off : (x : ℕ) → eqb (bitXor x 1) 0 ≡ eqb x 1
 no-bit-off x = go (eqb x 1) refl
