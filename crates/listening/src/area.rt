@@ -11,7 +11,6 @@ ghost use Rattle.model.specs.Area.{zeros, figureBytes, onArea};
 ghost use Rattle.records.specs.Records.{countStart, figuresStart, LevelFits};
 ghost use Rattle.listening.specs.Written.{rewritten, IsOpened};
 use model::Answer;
-use model::Entry;
 use model::Figures;
 use model::Plan;
 use replay::Standing;
@@ -41,10 +40,17 @@ pub fn open(area: &mut [u8], plan: Plan) -> u32
     0
 }
 
-// Enters a lot, run, block or stop.
-pub fn enter(area: &mut [u8], entry: Entry) -> Answer
+// Enters a lot.
+pub fn lot(
+    area: &mut [u8],
+    label: u32,
+    size: u32,
+    sample: u32,
+    wrong: u32,
+    wrong_in_all: u32,
+) -> Answer
     requires { ⌜ length (now area) ≡ areaLength ⌝ }
-    ensures { λ r. ⌜ record { answer = r; area = now (area .exit) } ≡ onArea (now (area .entry)) (Enter entry) ⌝ }
+    ensures { λ r. ⌜ record { answer = r; area = now (area .exit) } ≡ onArea (now (area .entry)) (Enter (Lot label size sample wrong «wrong_in_all»)) ⌝ }
 {
     let standing = replay::read(area, 0);
     if !standing.sound {
@@ -53,21 +59,55 @@ pub fn enter(area: &mut [u8], entry: Entry) -> Answer
     if !standing.opened {
         return answering::refused(6);
     }
-    match entry {
-        Entry::Lot {
-            label,
-            size,
-            sample,
-            wrong,
-            wrong_in_all,
-        } => enter_lot(area, standing, label, size, sample, wrong, wrong_in_all),
-        Entry::Run { right, wrong } => enter_run(area, standing, right, wrong),
-        Entry::Block { heard, wrong } => enter_block(area, standing, heard, wrong),
-        Entry::Stop { why, days } => enter_stop(area, standing, why, days),
-    }
+    enter_lot(area, standing, label, size, sample, wrong, wrong_in_all)
 }
 
-// Enters a lot. Its answer is made before anything is written, so that the figures before it need not be kept.
+// Enters a run.
+pub fn run(area: &mut [u8], right: u32, wrong: u32) -> Answer
+    requires { ⌜ length (now area) ≡ areaLength ⌝ }
+    ensures { λ r. ⌜ record { answer = r; area = now (area .exit) } ≡ onArea (now (area .entry)) (Enter (Run right wrong)) ⌝ }
+{
+    let standing = replay::read(area, 0);
+    if !standing.sound {
+        return answering::refused(3);
+    }
+    if !standing.opened {
+        return answering::refused(6);
+    }
+    enter_run(area, standing, right, wrong)
+}
+
+// Enters a block.
+pub fn block(area: &mut [u8], heard: u32, wrong: u32) -> Answer
+    requires { ⌜ length (now area) ≡ areaLength ⌝ }
+    ensures { λ r. ⌜ record { answer = r; area = now (area .exit) } ≡ onArea (now (area .entry)) (Enter (Block heard wrong)) ⌝ }
+{
+    let standing = replay::read(area, 0);
+    if !standing.sound {
+        return answering::refused(3);
+    }
+    if !standing.opened {
+        return answering::refused(6);
+    }
+    enter_block(area, standing, heard, wrong)
+}
+
+// Enters a stop.
+pub fn stop(area: &mut [u8], why: u32, days: u32) -> Answer
+    requires { ⌜ length (now area) ≡ areaLength ⌝ }
+    ensures { λ r. ⌜ record { answer = r; area = now (area .exit) } ≡ onArea (now (area .entry)) (Enter (Stop why days)) ⌝ }
+{
+    let standing = replay::read(area, 0);
+    if !standing.sound {
+        return answering::refused(3);
+    }
+    if !standing.opened {
+        return answering::refused(6);
+    }
+    enter_stop(area, standing, why, days)
+}
+
+// Enters a lot on an opened stream. Its answer is made before anything is written, so that the figures before it need not be kept.
 fn enter_lot(
     area: &mut [u8],
     standing: Standing,
@@ -115,7 +155,7 @@ fn enter_lot(
     answer
 }
 
-// Enters a run.
+// Enters a run on an opened stream.
 fn enter_run(area: &mut [u8], standing: Standing, right: u32, wrong: u32) -> Answer
     requires { ⌜ (length (now area) ≡ areaLength) × IsOpened (now area) standing ⌝ }
     ensures { λ r. ⌜ record { answer = r; area = now (area .exit) } ≡ onArea (now (area .entry)) (Enter (Run right wrong)) ⌝ }
@@ -131,7 +171,7 @@ fn enter_run(area: &mut [u8], standing: Standing, right: u32, wrong: u32) -> Ans
     answering::run(after, right)
 }
 
-// Enters a block.
+// Enters a block on an opened stream.
 fn enter_block(area: &mut [u8], standing: Standing, heard: u32, wrong: u32) -> Answer
     requires { ⌜ (length (now area) ≡ areaLength) × IsOpened (now area) standing ⌝ }
     ensures { λ r. ⌜ record { answer = r; area = now (area .exit) } ≡ onArea (now (area .entry)) (Enter (Block heard wrong)) ⌝ }
@@ -148,7 +188,7 @@ fn enter_block(area: &mut [u8], standing: Standing, heard: u32, wrong: u32) -> A
     answer
 }
 
-// Enters a stop.
+// Enters a stop on an opened stream.
 fn enter_stop(area: &mut [u8], standing: Standing, why: u32, days: u32) -> Answer
     requires { ⌜ (length (now area) ≡ areaLength) × IsOpened (now area) standing ⌝ }
     ensures { λ r. ⌜ record { answer = r; area = now (area .exit) } ≡ onArea (now (area .entry)) (Enter (Stop why days)) ⌝ }

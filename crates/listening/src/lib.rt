@@ -13,7 +13,7 @@ ghost use Rattle.model.specs.Calls.{refused as refusedBy};
 ghost use Rattle.model.specs.Store.{onStore};
 ghost use Rattle.model.specs.Claims.{on};
 ghost use Rattle.listening.specs.Written.{planOf};
-ghost use Rattle.listening.specs.Handed.{storeRefusal, answerIn};
+ghost use Rattle.listening.specs.Handed.{storeRefusal};
 use model::Answer;
 use model::Call;
 use model::Entry;
@@ -22,7 +22,6 @@ use model::sizes;
 use model::sizes::STORE_LENGTH;
 use model::sizes::STREAMS;
 use rules::answering;
-use words::Words;
 
 // Opens a stream with a plan.
 pub fn open(store: &mut [u8], stream: u32, kind: u32, option: u32, a: u32, b: u32) -> Answer
@@ -31,7 +30,7 @@ pub fn open(store: &mut [u8], stream: u32, kind: u32, option: u32, a: u32, b: u3
     answering::refused(open_as(store, stream, kind, option, a, b))
 }
 
-// Enters a lot.
+// Enters a lot. As in every call that writes, the part of the store that starts at the stream's offset is lent on.
 pub fn lot(
     store: &mut [u8],
     stream: u32,
@@ -43,16 +42,19 @@ pub fn lot(
 ) -> Answer
     ensures { λ r. ⌜ record { answer = r; store = now (store .exit) } ≡ onStore (now (store .entry)) (on stream (Enter (Lot label size sample wrong «wrong_in_all»))) ⌝ }
 {
-    words::unpacked(enter_packed(
-        store,
-        stream,
-        Entry::Lot {
-            label,
-            size,
-            sample,
-            wrong,
-            wrong_in_all,
-        },
+    let refusal = refusal_of(store.len(), stream);
+    if refusal != 0 {
+        return answering::refused(refusal);
+    }
+    let start = start_of(stream);
+    let end = start + sizes::AREA_LENGTH;
+    words::in_words(area::lot(
+        &mut store[start..end],
+        label,
+        size,
+        sample,
+        wrong,
+        wrong_in_all,
     ))
 }
 
@@ -60,21 +62,39 @@ pub fn lot(
 pub fn run(store: &mut [u8], stream: u32, right: u32, wrong: u32) -> Answer
     ensures { λ r. ⌜ record { answer = r; store = now (store .exit) } ≡ onStore (now (store .entry)) (on stream (Enter (Run right wrong))) ⌝ }
 {
-    words::unpacked(enter_packed(store, stream, Entry::Run { right, wrong }))
+    let refusal = refusal_of(store.len(), stream);
+    if refusal != 0 {
+        return answering::refused(refusal);
+    }
+    let start = start_of(stream);
+    let end = start + sizes::AREA_LENGTH;
+    words::in_words(area::run(&mut store[start..end], right, wrong))
 }
 
 // Enters a block.
 pub fn block(store: &mut [u8], stream: u32, heard: u32, wrong: u32) -> Answer
     ensures { λ r. ⌜ record { answer = r; store = now (store .exit) } ≡ onStore (now (store .entry)) (on stream (Enter (Block heard wrong))) ⌝ }
 {
-    words::unpacked(enter_packed(store, stream, Entry::Block { heard, wrong }))
+    let refusal = refusal_of(store.len(), stream);
+    if refusal != 0 {
+        return answering::refused(refusal);
+    }
+    let start = start_of(stream);
+    let end = start + sizes::AREA_LENGTH;
+    words::in_words(area::block(&mut store[start..end], heard, wrong))
 }
 
 // Enters a stop.
 pub fn stop(store: &mut [u8], stream: u32, why: u32, days: u32) -> Answer
     ensures { λ r. ⌜ record { answer = r; store = now (store .exit) } ≡ onStore (now (store .entry)) (on stream (Enter (Stop why days))) ⌝ }
 {
-    words::unpacked(enter_packed(store, stream, Entry::Stop { why, days }))
+    let refusal = refusal_of(store.len(), stream);
+    if refusal != 0 {
+        return answering::refused(refusal);
+    }
+    let start = start_of(stream);
+    let end = start + sizes::AREA_LENGTH;
+    words::in_words(area::stop(&mut store[start..end], why, days))
 }
 
 // Takes the newest entry back.
@@ -129,7 +149,7 @@ pub fn make(store: &mut [u8], stream: u32, call: Call) -> Answer
             plan.a,
             plan.b,
         )),
-        Call::Enter(entry) => words::unpacked(enter_packed(store, stream, entry)),
+        Call::Enter(entry) => enter(store, stream, entry),
         Call::Back => back(store, stream),
         Call::Ask(size) => ask(store, stream, size),
         Call::Read => read(store, stream),
@@ -149,24 +169,22 @@ fn open_as(store: &mut [u8], stream: u32, kind: u32, option: u32, a: u32, b: u32
     area::open(&mut store[start..end], Plan { kind, option, a, b })
 }
 
-// Enters anything, for five callers: compiled as a function of its own, it hands its answer over in memory, and so in words.
-fn enter_packed(store: &mut [u8], stream: u32, entry: Entry) -> Words
-    ensures { λ r. ⌜ record { answer = answerIn r; store = now (store .exit) } ≡ onStore (now (store .entry)) (on stream (Enter entry)) ⌝ }
-{
-    words::packed(enter(store, stream, entry))
-}
-
-// Enters anything: the part of the store that starts at the stream's offset is lent on.
+// Enters a lot, run, block or stop.
 fn enter(store: &mut [u8], stream: u32, entry: Entry) -> Answer
     ensures { λ r. ⌜ record { answer = r; store = now (store .exit) } ≡ onStore (now (store .entry)) (on stream (Enter entry)) ⌝ }
 {
-    let refusal = refusal_of(store.len(), stream);
-    if refusal != 0 {
-        return answering::refused(refusal);
+    match entry {
+        Entry::Lot {
+            label,
+            size,
+            sample,
+            wrong,
+            wrong_in_all,
+        } => lot(store, stream, label, size, sample, wrong, wrong_in_all),
+        Entry::Run { right, wrong } => run(store, stream, right, wrong),
+        Entry::Block { heard, wrong } => block(store, stream, heard, wrong),
+        Entry::Stop { why, days } => stop(store, stream, why, days),
     }
-    let start = start_of(stream);
-    let end = start + sizes::AREA_LENGTH;
-    area::enter(&mut store[start..end], entry)
 }
 
 // The refusals that come before the area is looked at: 1 for a store of another length, 2 for a stream that does not exist.

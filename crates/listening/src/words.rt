@@ -1,5 +1,5 @@
 // An answer in two words. A struct goes from function to function in memory: as four numbers, written one by one and read in words
-// by the caller, it makes the processor wait.
+// by the caller, it makes the processor wait. An answer that has been in words is written in words.
 ghost use mathlib.Core.Path.{_≡_};
 ghost use Prim.Native.Nat.{_%_, _/_};
 ghost use Rattle.listening.specs.Handed.{answerIn};
@@ -11,7 +11,14 @@ pub struct Words {
     high: u64,
 }
 
-pub fn packed(answer: Answer) -> Words
+// The same answer, put into words and taken out again.
+pub fn in_words(answer: Answer) -> Answer
+    ensures { λ r. ⌜ r ≡ answer ⌝ }
+{
+    unpacked(packed(answer))
+}
+
+fn packed(answer: Answer) -> Words
     ensures { λ r. ⌜ answerIn r ≡ answer ⌝ }
 {
     Words {
@@ -20,7 +27,7 @@ pub fn packed(answer: Answer) -> Words
     }
 }
 
-pub fn unpacked(words: Words) -> Answer
+fn unpacked(words: Words) -> Answer
     ensures { λ r. ⌜ r ≡ answerIn words ⌝ }
 {
     Answer {

@@ -1,63 +1,72 @@
-use native.Mathlib.Omega.{arith}
-use Rattle.listening.proofs.Lending.{lent-from, by-refusal, by-area}
 use borrow.Author.Needs.{needs}
 use Rattle.listening.proofs.enter.Statement.{statement}
 use Rattle.listening.proofs.enter.Tie as tie
 
-refusal-of-requires : tie.Need-refusal-of-requires
-refusal-of-requires c κs = search needs
+enum-known-entry : tie.Need-enum-known-entry
+enum-known-entry c = search needs
 
-refused-requires : tie.Need-refused-requires
-refused-requires c κs = search needs
+lot-requires : tie.Need-lot-requires
+lot-requires c κs = search needs
 
-returns : tie.Need-returns
-returns c = by-refusal _ _ _ (c .before .before .refusal-of .ensures) (c .before .if1 .taken) (c .refused .ensures)
+enum-known-entry-2 : tie.Need-enum-known-entry-2
+enum-known-entry-2 c = search needs
 
-start-of-requires : tie.Need-start-of-requires
-start-of-requires c κs =
-    let called = c .before .before .before .args in
-    lent-from (called .store .now) (called .stream) (c .before .refusal-of .ensures) (c .if1 .left) .1
+run-requires : tie.Need-run-requires
+run-requires c κs = search needs
 
-add-end : tie.Need-add-end
-add-end c = search needs
+enum-known-entry-3 : tie.Need-enum-known-entry-3
+enum-known-entry-3 c = search needs
 
-sub-enter : tie.Need-sub-enter
-sub-enter c = search needs
+block-requires : tie.Need-block-requires
+block-requires c κs = search needs
 
-part-enter-start : tie.Need-part-enter-start
-part-enter-start c = search needs
+enum-known-entry-4 : tie.Need-enum-known-entry-4
+enum-known-entry-4 c = search needs
 
-part-enter-end : tie.Need-part-enter-end
-part-enter-end c =
-    let whole = c .before in
-    let called = whole .before .before .before .args in
-    omega (arith, c .start-of .ensures, lent-from (called .store .now) (called .stream) (whole .before .refusal-of .ensures) (whole .if1 .left))
-
-enter-requires : tie.Need-enter-requires
-enter-requires c κs = search needs
+stop-requires : tie.Need-stop-requires
+stop-requires c κs = search needs
 
 same-length : tie.Need-same-length
 same-length c = search needs
 
+returns : tie.Need-returns
+returns c = cc
+
+same-length-2 : tie.Need-same-length-2
+same-length-2 c = search needs
+
 returns-2 : tie.Need-returns-2
-returns-2 c =
-    let made = c .before .before in
-    let started = made .before .before in
-    let whole = started .before in
-    by-area _ _ _ (whole .before .refusal-of .ensures) (whole .if1 .left) (started .start-of .ensures) (made .enter .ensures)
+returns-2 c = cc
+
+same-length-3 : tie.Need-same-length-3
+same-length-3 c = search needs
+
+returns-3 : tie.Need-returns-3
+returns-3 c = cc
+
+same-length-4 : tie.Need-same-length-4
+same-length-4 c = search needs
+
+returns-4 : tie.Need-returns-4
+returns-4 c = cc
 
 pub enter-spec : {M : Type 1} → statement M
 enter-spec =
     tie.close
     (tie.spec
-    refusal-of-requires
-    refused-requires
-    returns
-    start-of-requires
-    add-end
-    sub-enter
-    part-enter-start
-    part-enter-end
-    enter-requires
+    enum-known-entry
+    lot-requires
+    enum-known-entry-2
+    run-requires
+    enum-known-entry-3
+    block-requires
+    enum-known-entry-4
+    stop-requires
     same-length
-    returns-2)
+    returns
+    same-length-2
+    returns-2
+    same-length-3
+    returns-3
+    same-length-4
+    returns-4)

@@ -14,11 +14,8 @@ refused-requires c κs = search needs
 enum-known-call-2 : tie.Need-enum-known-call-2
 enum-known-call-2 c = search needs
 
-enter-packed-requires : tie.Need-enter-packed-requires
-enter-packed-requires c κs = search needs
-
-unpacked-requires : tie.Need-unpacked-requires
-unpacked-requires c κs = search needs
+enter-requires : tie.Need-enter-requires
+enter-requires c κs = search needs
 
 enum-told : tie.Need-enum-told
 enum-told c = search needs
@@ -76,8 +73,7 @@ make-spec =
     open-as-requires
     refused-requires
     enum-known-call-2
-    enter-packed-requires
-    unpacked-requires
+    enter-requires
     enum-told
     back-requires
     enum-known-call-3
