@@ -1,5 +1,5 @@
 //! The time of one call, taken in rounds that go through all implementations one after the other, so that a slow moment of the
-//! machine is slow for all of them.
+//! machine is slow for all of them. The least time counts: what else the machine does only adds to it.
 
 use crate::Make;
 use reference::{area_at, record_at, Answer, Frame, AREA, RECORD, RECORDS_FROM};
@@ -7,25 +7,60 @@ use std::hint::black_box;
 use std::ops::Range;
 use std::time::Instant;
 
-/// One time for each round.
-#[derive(Clone, Default)]
-pub struct Times(Vec<f64>);
+/// The least times of a call in nanoseconds: of each implementation, of the restoring after it, and of the floor.
+#[derive(Clone)]
+pub struct Least {
+    calls: Vec<f64>,
+    restoring: f64,
+    floor: f64,
+}
 
-impl Times {
-    pub fn add(&mut self, time: f64) {
-        self.0.push(time);
+impl Least {
+    fn of_nothing(implementations: usize) -> Self {
+        Least {
+            calls: vec![f64::INFINITY; implementations],
+            restoring: f64::INFINITY,
+            floor: f64::INFINITY,
+        }
     }
 
-    /// The least: what else the machine does only adds to it.
-    pub fn best(&self) -> f64 {
-        self.0.iter().copied().fold(f64::INFINITY, f64::min)
+    /// One call of an implementation, without the restoring.
+    pub fn call(&self, k: usize) -> f64 {
+        (self.calls[k] - self.restoring).max(0.1)
     }
 
-    /// How far the median lies above the least, as a part of it.
-    pub fn spread(&self) -> f64 {
-        let mut sorted = self.0.clone();
-        sorted.sort_by(f64::total_cmp);
-        sorted[sorted.len() / 2] / self.best() - 1.0
+    /// One pass that adds up the area's bytes in words of eight.
+    pub fn floor(&self) -> f64 {
+        self.floor
+    }
+
+    /// Keeps the lesser of each time and the other's.
+    pub fn keep(&mut self, other: &Least) {
+        for (kept, time) in self.calls.iter_mut().zip(&other.calls) {
+            *kept = kept.min(*time);
+        }
+        self.restoring = self.restoring.min(other.restoring);
+        self.floor = self.floor.min(other.floor);
+    }
+
+    /// Whether it is of so many implementations.
+    pub fn has(&self, implementations: usize) -> bool {
+        self.calls.len() == implementations
+    }
+
+    /// A line of text.
+    pub fn line(&self) -> String {
+        let numbers = self.calls.iter().chain([&self.restoring, &self.floor]);
+        numbers.map(|time| format!("{time} ")).collect()
+    }
+
+    /// What such a line holds.
+    pub fn in_line(line: &str) -> Option<Self> {
+        let numbers: Option<Vec<f64>> = line.split_whitespace().map(|number| number.parse().ok()).collect();
+        let mut calls = numbers?;
+        let floor = calls.pop()?;
+        let restoring = calls.pop()?;
+        Some(Least { calls, restoring, floor })
     }
 }
 
@@ -37,10 +72,7 @@ pub struct Timed {
     changed: [Range<usize>; 2],
     /// That of the reference.
     pub answer: Answer,
-    times: Vec<Times>,
-    restoring: Times,
-    /// Of the floor: one pass that adds up the area's bytes in words of eight.
-    pub floor: Times,
+    pub least: Least,
 }
 
 impl Timed {
@@ -60,15 +92,12 @@ impl Timed {
                 [area..area + RECORDS_FROM, area + record.start..area + record.end]
             }
         };
-        let times = vec![Times::default(); makes.len()];
         same.then_some(Timed {
             frame,
             kept,
             changed,
             answer,
-            times,
-            restoring: Times::default(),
-            floor: Times::default(),
+            least: Least::of_nothing(makes.len()),
         })
     }
 
@@ -77,14 +106,15 @@ impl Timed {
         let mut store = self.kept.clone();
         let mut others = 0;
         for _ in 0..rounds {
+            let mut round = Least::of_nothing(makes.len());
             for (k, (make, calls)) in makes.iter().enumerate() {
-                let (time, other) = self.time(*make, *calls, &mut store);
-                self.times[k].add(time);
+                let other;
+                (round.calls[k], other) = self.time(*make, *calls, &mut store);
                 others += other;
             }
-            let (time, _) = self.time(|_, _| [0; 4], makes[0].1, &mut store);
-            self.restoring.add(time);
-            self.floor.add(self.time_floor(makes[0].1, &store));
+            (round.restoring, _) = self.time(|_, _| [0; 4], makes[0].1, &mut store);
+            round.floor = self.time_floor(makes[0].1, &store);
+            self.least.keep(&round);
         }
         others
     }
@@ -109,28 +139,6 @@ impl Timed {
             black_box(sum(black_box(area)));
         }
         start.elapsed().as_nanos() as f64 / calls as f64
-    }
-
-    /// Nanoseconds of one call of an implementation, without the restoring.
-    pub fn best(&self, k: usize) -> f64 {
-        (self.times[k].best() - self.restoring.best()).max(0.1)
-    }
-
-    pub fn spread(&self, k: usize) -> f64 {
-        self.times[k].spread()
-    }
-
-    /// The least times, to be added to those of the same code at another place.
-    pub fn least(&self) -> Vec<f64> {
-        let rest = [&self.restoring, &self.floor];
-        self.times.iter().chain(rest).map(Times::best).collect()
-    }
-
-    pub fn add_least(&mut self, times: impl Iterator<Item = f64>) {
-        let rest = [&mut self.restoring, &mut self.floor];
-        for (kept, time) in self.times.iter_mut().chain(rest).zip(times) {
-            kept.add(time);
-        }
     }
 }
 
