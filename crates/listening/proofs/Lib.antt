@@ -1,6 +1,3 @@
--- What the calls make of an area: laws for each answer of the code.
-pub mod Rewriting
-pub mod OnReading
-pub mod Outcomes
+-- Laws of the part of a store that is lent, and of whole lists of calls.
 pub mod Lending
 pub mod ListLaws

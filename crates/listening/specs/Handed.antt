@@ -1,10 +1,16 @@
--- What the calls' functions hand to one another: the refusals before the area is looked at, and an answer in two words. Assumes nothing.
+-- What the calls' functions hand to one another: Open's arguments, the refusals before the area is looked at, and an answer in two words.
+-- Assumes nothing.
 use Prim.Native.Nat.{ℕ, _%_, _/_}
 use mathlib.Core.Bool.{cond, not}
 use lib.Dec.{eqb, leb}
 use Rattle.model.specs.declared.Answer.{Answer}
+use Rattle.model.specs.declared.Plan.{Plan}
 use Rattle.model.specs.Sizes.{streams, storeLength}
 use Rattle.listening.specs.declared.words.Words.{Words}
+
+-- Open's arguments as a plan
+abbrev pub planOf : ℕ → ℕ → ℕ → ℕ → Plan
+planOf kind option a b = record { kind = kind; option = option; a = a; b = b }
 
 -- 1: the store has another length; 2: there is no such stream; 0 where neither applies
 unfoldable pub storeRefusal : ℕ → ℕ → ℕ

@@ -1,4 +1,3 @@
 -- What the contracts of this crate cite beside the definitions of model.
-pub mod Written
 pub mod Lists
 pub mod Handed

@@ -1,6 +1,5 @@
 // The listening controller: paper 01's eight calls on a lent store of sixteen streams, and whole lists of calls. No call asks
 // anything of its caller: bad input gets a refusal number, and the store stays as it was.
-mod area;
 pub mod lists;
 mod words;
 
@@ -12,8 +11,7 @@ ghost use Rattle.model.specs.Sizes.{streams, startOf};
 ghost use Rattle.model.specs.Calls.{refused as refusedBy};
 ghost use Rattle.model.specs.Store.{onStore};
 ghost use Rattle.model.specs.Claims.{on};
-ghost use Rattle.listening.specs.Written.{planOf};
-ghost use Rattle.listening.specs.Handed.{storeRefusal};
+ghost use Rattle.listening.specs.Handed.{planOf, storeRefusal};
 use model::Answer;
 use model::Call;
 use model::Entry;
@@ -48,7 +46,7 @@ pub fn lot(
     }
     let start = start_of(stream);
     let end = start + sizes::AREA_LENGTH;
-    words::in_words(area::lot(
+    words::in_words(areas::lot(
         &mut store[start..end],
         label,
         size,
@@ -68,7 +66,7 @@ pub fn run(store: &mut [u8], stream: u32, right: u32, wrong: u32) -> Answer
     }
     let start = start_of(stream);
     let end = start + sizes::AREA_LENGTH;
-    words::in_words(area::run(&mut store[start..end], right, wrong))
+    words::in_words(areas::run(&mut store[start..end], right, wrong))
 }
 
 // Enters a block.
@@ -81,7 +79,7 @@ pub fn block(store: &mut [u8], stream: u32, heard: u32, wrong: u32) -> Answer
     }
     let start = start_of(stream);
     let end = start + sizes::AREA_LENGTH;
-    words::in_words(area::block(&mut store[start..end], heard, wrong))
+    words::in_words(areas::block(&mut store[start..end], heard, wrong))
 }
 
 // Enters a stop.
@@ -94,7 +92,7 @@ pub fn stop(store: &mut [u8], stream: u32, why: u32, days: u32) -> Answer
     }
     let start = start_of(stream);
     let end = start + sizes::AREA_LENGTH;
-    words::in_words(area::stop(&mut store[start..end], why, days))
+    words::in_words(areas::stop(&mut store[start..end], why, days))
 }
 
 // Takes the newest entry back.
@@ -107,7 +105,7 @@ pub fn back(store: &mut [u8], stream: u32) -> Answer
     }
     let start = start_of(stream);
     let end = start + sizes::AREA_LENGTH;
-    area::take_back(&mut store[start..end])
+    areas::take_back(&mut store[start..end])
 }
 
 // The sample that a lot would ask for.
@@ -120,7 +118,7 @@ pub fn ask(store: &[u8], stream: u32, size: u32) -> Answer
     }
     let start = start_of(stream);
     let end = start + sizes::AREA_LENGTH;
-    area::ask(&store[start..end], size)
+    areas::ask(&store[start..end], size)
 }
 
 // The count, what is accepted, and the figure of the plan.
@@ -133,7 +131,7 @@ pub fn read(store: &[u8], stream: u32) -> Answer
     }
     let start = start_of(stream);
     let end = start + sizes::AREA_LENGTH;
-    area::read(&store[start..end])
+    areas::read(&store[start..end])
 }
 
 // Makes any of the calls.
@@ -166,7 +164,7 @@ fn open_as(store: &mut [u8], stream: u32, kind: u32, option: u32, a: u32, b: u32
     }
     let start = start_of(stream);
     let end = start + sizes::AREA_LENGTH;
-    area::open(&mut store[start..end], Plan { kind, option, a, b })
+    areas::open(&mut store[start..end], Plan { kind, option, a, b })
 }
 
 // Enters a lot, run, block or stop.

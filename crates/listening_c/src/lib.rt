@@ -5,7 +5,7 @@ ghost use Rattle.model.specs.declared.Entry.the-variants.{Lot, Run, Block, Stop
 ghost use Rattle.model.specs.declared.Call.the-variants.{Open, Enter, Back, Ask, Read};
 ghost use Rattle.model.specs.Store.{onStore};
 ghost use Rattle.model.specs.Claims.{on};
-ghost use Rattle.listening.specs.Written.{planOf};
+ghost use Rattle.listening.specs.Handed.{planOf};
 ghost use Rattle.listening.specs.Lists.{Listed};
 use listening::lists;
 use model::Answer;
