@@ -151,7 +151,16 @@ fn enter_lot(
         wrong,
         wrong_in_all,
     );
-    records::put_record(area, count, 1, 0, label, size, wrong, wrong_in_all);
+    records::put_record(
+        area,
+        count,
+        records::LOT,
+        0,
+        label,
+        size,
+        wrong,
+        wrong_in_all,
+    );
     put_standing(area, count + 1, after);
     answer
 }
@@ -167,7 +176,7 @@ fn enter_run(area: &mut [u8], standing: Standing, right: u32, wrong: u32) -> Ans
         return answering::refused(refusal);
     }
     let after = stepping::run(standing.plan, standing.figures, right, wrong);
-    records::put_record(area, count, 2, wrong as u8, right, 0, 0, 0);
+    records::put_record(area, count, records::RUN, wrong as u8, right, 0, 0, 0);
     put_standing(area, count + 1, after);
     answering::run(after, right)
 }
@@ -184,7 +193,7 @@ fn enter_block(area: &mut [u8], standing: Standing, heard: u32, wrong: u32) -> A
     }
     let after = stepping::block(standing.plan, standing.figures, heard, wrong);
     let answer = answering::block(standing.plan, standing.figures, after, heard, wrong);
-    records::put_record(area, count, 3, wrong as u8, heard, 0, 0, 0);
+    records::put_record(area, count, records::BLOCK, wrong as u8, heard, 0, 0, 0);
     put_standing(area, count + 1, after);
     answer
 }
@@ -200,7 +209,7 @@ fn enter_stop(area: &mut [u8], standing: Standing, why: u32, days: u32) -> Answe
         return answering::refused(refusal);
     }
     let after = stepping::stop(standing.plan, standing.figures, why, days);
-    records::put_record(area, count, 4, why as u8, days, 0, 0, 0);
+    records::put_record(area, count, records::STOP, why as u8, days, 0, 0, 0);
     put_standing(area, count + 1, after);
     answering::gives(0, 0, 0)
 }

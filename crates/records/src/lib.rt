@@ -18,6 +18,15 @@ use plans::continuous::Continuous;
 use plans::credit::Credit;
 use plans::level::LevelState;
 
+// The kinds of records.
+pub const LOT: u8 = 1;
+
+pub const RUN: u8 = 2;
+
+pub const BLOCK: u8 = 3;
+
+pub const STOP: u8 = 4;
+
 // So many bytes are looked at in one go where zeros are searched: an eighth of the records.
 const WINDOW_LENGTH: usize = RECORD_LENGTH * 16;
 

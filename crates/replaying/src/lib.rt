@@ -18,20 +18,20 @@ pub struct Entered {
 }
 
 // The heads of the records that can stand: the first four bytes as one number, kind + 256 × flag.
-pub const LOT: u32 = 1;
+pub const LOT: u32 = records::LOT as u32;
 
-pub const RUN: u32 = 2;
+pub const RUN: u32 = records::RUN as u32;
 
-pub const RUN_WRONG: u32 = 258;
+pub const RUN_WRONG: u32 = RUN + 256;
 
-pub const BLOCK: u32 = 3;
+pub const BLOCK: u32 = records::BLOCK as u32;
 
-pub const BLOCK_WRONG: u32 = 259;
+pub const BLOCK_WRONG: u32 = BLOCK + 256;
 
 // A stop of why 1, and one of why 2.
-pub const PAUSE: u32 = 260;
+pub const PAUSE: u32 = records::STOP as u32 + 256;
 
-pub const CHANGE: u32 = 516;
+pub const CHANGE: u32 = records::STOP as u32 + 512;
 
 // A record's first four bytes as one number. It is made where the bytes are read, so that they are loaded and compared at once.
 pub fn head_of(read: Record) -> u32
