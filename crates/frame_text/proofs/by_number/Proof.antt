@@ -57,35 +57,35 @@ made-if-requires-8 c κs = search needs
 
 returns : tie.Need-returns
 unfolding numbered allZero
-returns c = rw (c .before .before .before .match .keys1) (cc)
+returns c = rw (c .before .before .before .match .keys1, c .made-if .ensures, c .before .open-call .ensures, c .before .before .all-zero .ensures)
 
 returns-2 : tie.Need-returns-2
 unfolding numbered madeIf
-returns-2 c = rw (c .before .before .match .keys2) (cc)
+returns-2 c = rw (c .before .before .match .keys2, c .made-if2 .ensures, c .before .lot-call .ensures)
 
 returns-3 : tie.Need-returns-3
 unfolding numbered allZero
-returns-3 c = rw (c .before .before .match .keys3) (cc)
+returns-3 c = rw (c .before .before .match .keys3, c .made-if3 .ensures, c .before .all-zero2 .ensures)
 
 returns-4 : tie.Need-returns-4
 unfolding numbered allZero
-returns-4 c = rw (c .before .before .match .keys4) (cc)
+returns-4 c = rw (c .before .before .match .keys4, c .made-if4 .ensures, c .before .all-zero3 .ensures)
 
 returns-5 : tie.Need-returns-5
 unfolding numbered allZero
-returns-5 c = rw (c .before .before .match .keys5) (cc)
+returns-5 c = rw (c .before .before .match .keys5, c .made-if5 .ensures, c .before .all-zero4 .ensures)
 
 returns-6 : tie.Need-returns-6
 unfolding numbered allZero
-returns-6 c = rw (c .before .before .match .keys6) (cc)
+returns-6 c = rw (c .before .before .match .keys6, c .made-if6 .ensures, c .before .all-zero5 .ensures)
 
 returns-7 : tie.Need-returns-7
 unfolding numbered allZero
-returns-7 c = rw (c .before .before .match .keys7) (cc)
+returns-7 c = rw (c .before .before .match .keys7, c .made-if7 .ensures, c .before .all-zero6 .ensures)
 
 returns-8 : tie.Need-returns-8
 unfolding numbered allZero
-returns-8 c = rw (c .before .before .match .keys8) (cc)
+returns-8 c = rw (c .before .before .match .keys8, c .made-if8 .ensures, c .before .all-zero7 .ensures)
 
 returns-9 : tie.Need-returns-9
 unfolding numbered

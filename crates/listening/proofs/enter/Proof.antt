@@ -30,25 +30,33 @@ same-length : tie.Need-same-length
 same-length c = search needs
 
 returns : tie.Need-returns
-returns c = cc
+returns c =
+    let made = c .before .before in
+    rw (made .before .before .before .entry .given .1) (made .lot .ensures)
 
 same-length-2 : tie.Need-same-length-2
 same-length-2 c = search needs
 
 returns-2 : tie.Need-returns-2
-returns-2 c = cc
+returns-2 c =
+    let made = c .before .before in
+    rw (made .before .before .before .entry2 .given .1) (made .run .ensures)
 
 same-length-3 : tie.Need-same-length-3
 same-length-3 c = search needs
 
 returns-3 : tie.Need-returns-3
-returns-3 c = cc
+returns-3 c =
+    let made = c .before .before in
+    rw (made .before .before .before .entry3 .given .1) (made .block .ensures)
 
 same-length-4 : tie.Need-same-length-4
 same-length-4 c = search needs
 
 returns-4 : tie.Need-returns-4
-returns-4 c = cc
+returns-4 c =
+    let made = c .before .before in
+    rw (made .before .before .before .entry4 .given .1) (made .stop .ensures)
 
 pub enter-spec : {M : Type 1} → statement M
 enter-spec =

@@ -39,13 +39,17 @@ same-length : tie.Need-same-length
 same-length c = search needs
 
 returns : tie.Need-returns
-returns c = cc
+returns c =
+    let made = c .before .before .before in
+    rw (c .refused .ensures, made .before .before .before .call .given .1) (made .open-as .ensures)
 
 same-length-2 : tie.Need-same-length-2
 same-length-2 c = search needs
 
 returns-2 : tie.Need-returns-2
-returns-2 c = cc
+returns-2 c =
+    let made = c .before .before in
+    rw (made .before .before .before .call2 .given .1) (made .enter .ensures)
 
 same-length-3 : tie.Need-same-length-3
 same-length-3 c = search needs
@@ -57,7 +61,7 @@ same-length-4 : tie.Need-same-length-4
 same-length-4 c = search needs
 
 returns-4 : tie.Need-returns-4
-returns-4 c = cc
+returns-4 c = rw (c .before .before .before .call3 .given .1) (c .ask .ensures)
 
 same-length-5 : tie.Need-same-length-5
 same-length-5 c = search needs
