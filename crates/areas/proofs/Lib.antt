@@ -1,4 +1,5 @@
 -- What the calls make of an area: laws for each answer of the code.
-mod Rewriting
-mod OnReading
-mod Outcomes
+pub mod Rewriting
+pub mod OnReading
+pub mod Outcomes
+pub mod Entering

@@ -1,7 +1,6 @@
 -- What is known of an area once it has been read. Assumes nothing.
 use Prim.Native.Nat.{ℕ, zero, suc, _≤_}
 use mathlib.Core.Path.{_≡_, refl, sym, ap, _∙_}
-use mathlib.Core.Bool.{true, false}
 use mathlib.Core.List.{List, [], _∷_}
 use native.Mathlib.Omega.{arith}
 use lib.Dec.{T}
@@ -12,9 +11,10 @@ use Rattle.model.specs.declared.Figures.{Figures}
 use Rattle.model.specs.Sizes.{mostRecords}
 use Rattle.model.specs.Stations.{unopened, opened, validPlan}
 use Rattle.model.specs.Figuring.{started, figuresOf}
-use Rattle.model.specs.Calls.{admissible}
-use Rattle.model.specs.Area.{areaOf, Reading, unsound, holds, reading}
-use Rattle.model.proofs.Booleans.{never-both}
+use Rattle.model.specs.declared.Call.{Call}
+use Rattle.model.specs.Calls.{admissible, refused, refusalOf}
+use Rattle.model.specs.Area.{areaOf, Reading, unsound, holds, reading, onArea}
+use Rattle.model.proofs.OnArea.{on-unsound, on-station, refused-station}
 use Rattle.model.proofs.Allowed.{newest-of, count-within}
 use Rattle.model.proofs.AreaReading.{area-of-reading}
 use Rattle.model.specs.FigureBounds.{FiguresWithin}
@@ -31,37 +31,25 @@ pub record OpenedAt (newest : ℕ) (area : List ℕ) (s : Standing) (es : List E
   pub brought : s .figures ≡ figuresOf (s .plan) (drop newest es)
 
 module _ (newest : ℕ) (area : List ℕ) (s : Standing) (said : s ≡ standingOf newest (reading area)) where
-  sound-of : (r : Reading) → reading area ≡ r → s .sound ≡ standingOf newest r .sound
-  sound-of r e = ap (λ (x : Standing). x .sound) (said ∙ ap (standingOf newest) e)
+  refusal-of : (r : Reading) → reading area ≡ r → s .refusal ≡ standingOf newest r .refusal
+  refusal-of r e = ap (λ (x : Standing). x .refusal) (said ∙ ap (standingOf newest) e)
 
-  opened-of : (r : Reading) → reading area ≡ r → s .opened ≡ standingOf newest r .opened
-  opened-of r e = ap (λ (x : Standing). x .opened) (said ∙ ap (standingOf newest) e)
-
-  pub read-unsound : s .sound ≡ false → reading area ≡ unsound
+  pub read-unopened : s .refusal ≡ 6 → reading area ≡ holds unopened
   unfolding standingOf nothingStands
-  read-unsound fails = go (reading area) refl
-    where
-      go : (r : Reading) → reading area ≡ r → reading area ≡ unsound
-      go unsound e = e
-      go (holds unopened) e = absurd (never-both (s .sound) (sound-of (holds unopened) e) fails)
-      go (holds (opened p es)) e = absurd (never-both (s .sound) (sound-of (holds (opened p es)) e) fails)
-
-  pub read-unopened : s .sound ≡ true → s .opened ≡ false → reading area ≡ holds unopened
-  unfolding standingOf nothingStands
-  read-unopened sound shut = go (reading area) refl
+  read-unopened six = go (reading area) refl
     where
       go : (r : Reading) → reading area ≡ r → reading area ≡ holds unopened
-      go unsound e = absurd (never-both (s .sound) sound (sound-of unsound e))
+      go unsound e = absurd (omega (arith, refusal-of unsound e))
       go (holds unopened) e = e
-      go (holds (opened p es)) e = absurd (never-both (s .opened) (opened-of (holds (opened p es)) e) shut)
+      go (holds (opened p es)) e = absurd (omega (arith, refusal-of (holds (opened p es)) e))
 
-  pub read-opened : s .opened ≡ true → (es : List Entry) × OpenedAt newest area s es
+  pub read-opened : s .refusal ≡ 0 → (es : List Entry) × OpenedAt newest area s es
   unfolding standingOf nothingStands
-  read-opened is = go (reading area) refl
+  read-opened none = go (reading area) refl
     where
       go : (r : Reading) → reading area ≡ r → (es : List Entry) × OpenedAt newest area s es
-      go unsound e = absurd (never-both (s .opened) is (opened-of unsound e))
-      go (holds unopened) e = absurd (never-both (s .opened) is (opened-of (holds unopened) e))
+      go unsound e = absurd (omega (arith, refusal-of unsound e))
+      go (holds unopened) e = absurd (omega (arith, refusal-of (holds unopened) e))
       go (holds (opened p es)) e =
           let told : s ≡ standingOf newest (holds (opened p es)) = said ∙ ap (standingOf newest) e in (
             es,
@@ -71,6 +59,20 @@ module _ (newest : ℕ) (area : List ℕ) (s : Standing) (said : s ≡ standingO
               brought = ap (λ (x : Standing). x .figures) told ∙ rw (ap (λ (x : Standing). x .plan) told);
             },
           )
+
+  -- 3, and 6 for a call that is no Open
+  pub read-refused : (c : Call) → (s .refusal ≡ 6 → refusalOf unopened c ≡ 6) → (s .refusal ≡ 0 → ⊥)
+      → onArea area c ≡ record { answer = refused (s .refusal); area = area }
+  unfolding standingOf nothingStands
+  read-refused c six some = go (reading area) refl
+    where
+      go : (r : Reading) → reading area ≡ r → onArea area c ≡ record { answer = refused (s .refusal); area = area }
+      go unsound e = rw (refusal-of unsound e) (on-unsound area c e)
+      go (holds unopened) e =
+          let given = refusal-of (holds unopened) e in
+          let kept = refused-station unopened c (λ z. omega (arith, six given)) in
+          on-station area unopened c e ∙ rw (kept .0, kept .1, six given, given, area-of-reading area unopened e .1)
+      go (holds (opened p es)) e = absurd (some (refusal-of (holds (opened p es)) e))
 
 -- what holds of the plan, the entries and the figures of such an area
 module _ {newest : ℕ} {area : List ℕ} {s : Standing} {es : List Entry} (at : OpenedAt newest area s es) where

@@ -19,7 +19,6 @@ use Rattle.model.specs.declared.Call.the-variants.{Open, Enter, Back, Ask, Read
 use Rattle.model.specs.declared.Figures.{Figures}
 use Rattle.model.specs.declared.Answer.{Answer}
 use Rattle.model.specs.Sizes.{recordLength, headerLength, mostRecords}
-use Rattle.records.specs.declared.Record.{Record}
 use Rattle.records.specs.Records.{recordIn, recordAt, countStart, figuresStart, LevelFits}
 use Rattle.model.specs.Stations.{Station, unopened, opened, validPlan, isContinuous}
 use Rattle.model.specs.Figuring.{sampleAsked, verdictOn, acceptedBy, stepped, started, figuresOf}
@@ -58,12 +57,11 @@ use Rattle.model.proofs.Allowed.{room-for, passed}
 use Rattle.model.proofs.FigureBounds.{lot-size-range, stepped-within}
 use Rattle.model.proofs.AreaReading.{area-of-reading, part-record, records-in}
 use Rattle.model.proofs.Keeping.{accepted-station, accepted-answer, valid-opens}
-use Rattle.model.proofs.OnArea.{on-station, on-unsound, refused-station}
+use Rattle.model.proofs.OnArea.{on-station, refused-station}
 use Rattle.replay.specs.declared.Standing.{Standing}
-use Rattle.replay.specs.Standing.{standingOf}
-use Rattle.areas.specs.Written.{rewritten}
+use Rattle.areas.specs.Written.{openedWith, rewritten}
 use Rattle.areas.proofs.Rewriting.{entered-area, taken-area, opened-area}
-use Rattle.areas.proofs.OnReading.{OpenedAt, read-unsound, read-unopened, read-plan, read-area, read-figures, read-count, level-fits}
+use Rattle.areas.proofs.OnReading.{OpenedAt, read-plan, read-area, read-figures, read-count, level-fits}
 
 -- an answer, and the area after it
 abbrev pub leaves : Answer → List ℕ → AreaOutcome
@@ -84,14 +82,6 @@ module _ (area : List ℕ) (c : Call) (r : Answer) where
   by-call st after e taken given left =
       rw (given, left) (sym (on-station area st c e ∙ rw (accepted-answer st c taken, accepted-station st c taken)))
 
--- the refusals that come first: 3, and 6 for a call that is no Open
-module _ (newest : ℕ) (area : List ℕ) (s : Standing) (said : s ≡ standingOf newest (reading area)) (c : Call) {r : Answer} where
-  pub by-unsound : s .sound ≡ false → r ≡ refused 3 → leaves r area ≡ onArea area c
-  by-unsound fails given = ap (λ (a : Answer). leaves a area) given ∙ sym (on-unsound area c (read-unsound newest area s said fails))
-
-  pub by-unopened : refusalOf unopened c ≡ 6 → s .sound ≡ true → s .opened ≡ false → r ≡ refused 6 → leaves r area ≡ onArea area c
-  by-unopened six sound shut given = by-refusal area c r unopened 6 (read-unopened newest area s said sound shut) (sym six) (λ z. omega arith) given
-
 -- Open
 module _ (area : List ℕ) (plan : Plan) {r : Answer} where
   pub open-invalid : {valid : Bool} → reading area ≡ holds unopened → valid ≡ validPlan plan → valid ≡ false → r ≡ refused 5
@@ -100,13 +90,12 @@ module _ (area : List ℕ) (plan : Plan) {r : Answer} where
   open-invalid e same fails given =
       by-refusal area (Open plan) r unopened 5 e (rw (sym same ∙ fails)) (λ z. omega arith) given
 
-  pub open-made : {f : Figures} {planned after : List ℕ} → reading area ≡ holds unopened → T (validPlan plan) → r ≡ gives 0 0 0
-      → planned ≡ written 0 (planBytes plan 0) area → f ≡ started plan → after ≡ written figuresStart (figureBytes f) planned
-      → leaves r after ≡ onArea area (Open plan)
-  unfolding answerOf changed
-  open-made {after = after} e valid given plans starts left =
+  pub open-made : {after : List ℕ} → reading area ≡ holds unopened → T (validPlan plan) → r ≡ gives 0 0 0
+      → after ≡ openedWith plan area → leaves r after ≡ onArea area (Open plan)
+  unfolding answerOf changed openedWith
+  open-made {after} e valid given left =
       by-call area (Open plan) r unopened after e (valid-opens plan valid) given
-      (left ∙ rw (starts, plans, sym (area-of-reading area unopened e .1)) (opened-area plan))
+      (left ∙ rw (sym (area-of-reading area unopened e .1)) (opened-area plan))
 
 module _ {area : List ℕ} {s : Standing} {es : List Entry} (at : OpenedAt 0 area s es) where
   pub open-again : (plan : Plan) {r : Answer} → r ≡ refused 4 → leaves r area ≡ onArea area (Open plan)
@@ -136,16 +125,6 @@ module _ {area : List ℕ} {s : Standing} {es : List Entry} (at : OpenedAt 0 are
       ∙ rw (stepped-on, at .brought, at .counted, read-area at)
       (entered-area (s .plan) e es
       (room-for (s .plan) (figuresOf (s .plan) es) (length es) e (rw (at .brought, at .counted) at (sym same ∙ none)))))
-
-  -- the same, by the two writes
-  pub entered-by : (e : Entry) {n : ℕ} {r : Answer} {recorded after : List ℕ} {g : Figures}
-      → n ≡ firstOf (entryRefusals (s .plan) (s .figures) (s .count) e) → n ≡ 0
-      → g ≡ stepped (s .plan) e (s .figures) → r ≡ entryAnswer (s .plan) (s .figures) e
-      → recorded ≡ written (headerLength + recordLength * s .count) (recordOf e) area
-      → after ≡ written figuresStart (figureBytes g) (written countStart (bytes 2 (s .count + 1)) recorded)
-      → leaves r after ≡ onArea area (Enter e)
-  unfolding rewritten
-  entered-by e same none stepped-on given recorded left = entered e same none stepped-on given (left ∙ rw recorded refl)
 
   -- and what each kind gives
   pub lot-answer : (label N n d D : ℕ) {g : Figures} {r : Answer} → g ≡ stepped (s .plan) (Lot label N n d D) (s .figures)
@@ -224,17 +203,16 @@ newest-record p e es room =
     (kind-read e)
 
 pub back-taken : {area : List ℕ} {s : Standing} {es : List Entry} → OpenedAt 1 area s es
-    → {last : ℕ} {taken : Record} {r : Answer} {after : List ℕ} → (s .count ≡ 0 → ⊥) → last ≡ s .count - 1
-    → taken ≡ recordIn (recordAt area last)
-    → r ≡ gives (taken .kind) 0 0 → after ≡ rewritten last (zeros recordLength) last (s .figures) area
+    → {last kind : ℕ} {r : Answer} {after : List ℕ} → (s .count ≡ 0 → ⊥) → last ≡ s .count - 1
+    → kind ≡ recordIn (recordAt area last) .kind
+    → r ≡ gives kind 0 0 → after ≡ rewritten last (zeros recordLength) last (s .figures) area
     → leaves r after ≡ onArea area Back
 unfolding refusalOf refusals firstOf answerOf changed newestKind withoutNewest
-back-taken {area} {s} {es = []} at {last} {taken} {r} {after} some ended read given left = absurd (some (at .counted))
-back-taken {area} {s} {es = e ∷ es} at {last} {taken} {r} {after} some ended read given left =
+back-taken {area} {s} {es = []} at {last} {kind} {r} {after} some ended read given left = absurd (some (at .counted))
+back-taken {area} {s} {es = e ∷ es} at {last} {kind} {r} {after} some ended read given left =
     let ends : last ≡ length es = omega (arith, at .counted) in
     let room : length es < mostRecords = omega (arith, read-count at, at .counted) in
-    let told : taken .kind ≡ kindOf e =
-    ap (λ (x : Record). x .kind) read ∙ rw (ends, read-area at) (newest-record (s .plan) e es room) in
+    let told : kind ≡ kindOf e = read ∙ rw (ends, read-area at) (newest-record (s .plan) e es room) in
     by-call area Back r (opened (s .plan) (e ∷ es)) after (at .reads) (rw (ne-eqb (suc (length es)) 0 (λ z. omega arith)))
     (given ∙ ap (λ (k : ℕ). gives k 0 0) told)
     (left ∙ rw (ends, at .brought, read-area at) (taken-area (s .plan) e es room))

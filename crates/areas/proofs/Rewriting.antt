@@ -7,16 +7,17 @@ use native.Mathlib.Omega.{arith}
 use lib.ListN.{length, drop, length-append, replicate-append-replicate}
 use lib.Seq.{take-at, drop-at, drop-drop}
 use Rattle.little.specs.Little.{bytes, written}
+use Rattle.little.proofs.Laws.{length-written, length-bytes}
 use Rattle.model.specs.declared.Plan.{Plan}
 use Rattle.model.specs.declared.Entry.{Entry}
 use Rattle.model.specs.declared.Figures.{Figures}
-use Rattle.model.specs.Sizes.{recordLength, headerLength, mostRecords}
+use Rattle.model.specs.Sizes.{recordLength, headerLength, mostRecords, areaLength}
 use Rattle.model.specs.Stations.{unopened, opened}
 use Rattle.model.specs.Figuring.{started, figuresOf}
-use Rattle.model.specs.Area.{zeros, planBytes, figureBytes, recordOf, recordsOf, areaOf}
+use Rattle.model.specs.Area.{zeros, planBytes, figureBytes, recordBytes, recordOf, recordsOf, areaOf}
 use Rattle.model.proofs.AreaReading.{length-record, length-records, length-plan-bytes, length-figure-bytes}
 use Rattle.records.specs.Records.{countStart, figuresStart}
-use Rattle.areas.specs.Written.{rewritten}
+use Rattle.areas.specs.Written.{openedWith, rewritten}
 
 -- a write over x, between a and z
 written-at : (at : ℕ) (a x z b : List ℕ) → length a ≡ at → length x ≡ length b → written at b (a ++ (x ++ z)) ≡ a ++ (b ++ z)
@@ -52,6 +53,26 @@ module _ (p : Plan) (i m : ℕ) (f : Figures) (s x r z : List ℕ)
       let same : length (figureBytes f) ≡ length (figureBytes g) = length-figure-bytes f ∙ sym (length-figure-bytes g) in
       let figured = written-at figuresStart (planBytes p n) (figureBytes f) (s ++ (r ++ z)) (figureBytes g) (length-plan-bytes p n) same in
       rw (recorded, count-written p m n, figured)
+
+-- ---- an area stays as long as it is
+
+pub length-opened : (p : Plan) (area : List ℕ) → length area ≡ areaLength → length (openedWith p area) ≡ areaLength
+unfolding openedWith
+length-opened p area whole =
+    let planned = length-written 0 (planBytes p 0) area (omega (arith, length-plan-bytes p 0)) in
+    length-written figuresStart (figureBytes (started p)) _ (omega (arith, planned, length-figure-bytes (started p))) ∙ planned ∙ whole
+
+pub length-record-bytes : (kind flag a b c d : ℕ) → length (recordBytes kind flag a b c d) ≡ recordLength
+unfolding recordBytes bytes
+length-record-bytes kind flag a b c d = refl
+
+pub length-rewritten : (i n : ℕ) (b : List ℕ) (g : Figures) (area : List ℕ) → i < mostRecords → length b ≡ recordLength → length area ≡ areaLength
+    → length (rewritten i b n g area) ≡ areaLength
+unfolding rewritten
+length-rewritten i n b g area room lb whole =
+    let recorded = length-written (headerLength + recordLength * i) b area (omega arith) in
+    let counted = length-written countStart (bytes 2 n) (written (headerLength + recordLength * i) b area) (omega (arith, recorded, length-bytes 2 n)) in
+    length-written figuresStart (figureBytes g) _ (omega (arith, recorded, counted, length-figure-bytes g)) ∙ counted ∙ recorded ∙ whole
 
 -- what is unused behind n records
 abbrev pub unused : ℕ → List ℕ

@@ -1,3 +1,4 @@
--- Laws of the part of a store that is lent, and of whole lists of calls.
-pub mod Lending
+-- Laws of what a call sees of its stream, of the part of the store that is lent, and of whole lists of calls.
+pub mod Looking
 pub mod ListLaws
+pub mod Trying

@@ -1,11 +1,17 @@
--- What the calls' functions hand to one another: Open's arguments, the refusals before the area is looked at, and an answer in two words.
--- Assumes nothing.
+-- What the calls' functions hand to one another: Open's arguments, the refusals before the area is looked at, what a call sees of a
+-- stream, and an answer in two words. Assumes nothing.
 use Prim.Native.Nat.{ℕ, _%_, _/_}
 use mathlib.Core.Bool.{cond, not}
+use mathlib.Core.List.{List}
 use lib.Dec.{eqb, leb}
+use lib.ListN.{length}
 use Rattle.model.specs.declared.Answer.{Answer}
 use Rattle.model.specs.declared.Plan.{Plan}
 use Rattle.model.specs.Sizes.{streams, storeLength}
+use Rattle.model.specs.Area.{reading}
+use Rattle.model.specs.Store.{areaAt}
+use Rattle.replay.specs.declared.Standing.{Standing}
+use Rattle.replay.specs.Standing.{nothingStands, standingOf}
 use Rattle.listening.specs.declared.words.Words.{Words}
 
 -- Open's arguments as a plan
@@ -15,6 +21,12 @@ planOf kind option a b = record { kind = kind; option = option; a = a; b = b }
 -- 1: the store has another length; 2: there is no such stream; 0 where neither applies
 unfoldable pub storeRefusal : ℕ → ℕ → ℕ
 storeRefusal storeBytes stream = cond (not (eqb storeBytes storeLength)) 1 (cond (leb streams stream) 2 0)
+
+-- what a call sees of a stream: 1 or 2, or what the area says, with the figures before so many of the newest entries
+unfoldable pub lookedAt : ℕ → ℕ → List ℕ → Standing
+lookedAt newest stream store =
+    cond (eqb (storeRefusal (length store) stream) 0) (standingOf newest (reading (areaAt stream store)))
+    (nothingStands (storeRefusal (length store) stream))
 
 -- the answer in two words
 unfoldable pub answerIn : Words → Answer

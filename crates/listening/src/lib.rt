@@ -1,34 +1,66 @@
 // The listening controller: paper 01's eight calls on a lent store of sixteen streams, and whole lists of calls. No call asks
-// anything of its caller: bad input gets a refusal number, and the store stays as it was.
+// anything of its caller: bad input gets a refusal number, and the store stays as it was. A call looks at its stream, which gives
+// refusals 1, 2, 3 and 6 in one place; it tests its own refusals; an entry is then tried by the step of its plan; and what changed is
+// written in the stream's area.
 pub mod lists;
 mod words;
 
 ghost use mathlib.Core.Path.{_≡_};
+ghost use Prim.Native.Nat.{_+_, _<_};
+ghost use lib.Dec.{T};
+ghost use lib.ListN.{length};
+ghost use Rattle.little.specs.Little.{written};
 ghost use Rattle.model.specs.declared.Entry.the-variants.{Lot, Run, Block, Stop};
 ghost use Rattle.model.specs.declared.Call.the-variants.{Open, Enter, Back, Ask, Read};
-ghost use Prim.Native.Nat.{_<_};
-ghost use Rattle.model.specs.Sizes.{streams, startOf};
-ghost use Rattle.model.specs.Calls.{refused as refusedBy};
-ghost use Rattle.model.specs.Store.{onStore};
+ghost use Rattle.model.specs.Sizes.{recordLength, mostRecords, streams, storeLength, startOf};
+ghost use Rattle.model.specs.Stations.{validPlan};
+ghost use Rattle.model.specs.Area.{zeros, recordBytes};
+ghost use Rattle.model.specs.Store.{areaAt, onStore};
 ghost use Rattle.model.specs.Claims.{on};
-ghost use Rattle.listening.specs.Handed.{planOf, storeRefusal};
+ghost use Rattle.records.specs.Records.{recordIn, recordAt, LevelFits};
+ghost use Rattle.areas.specs.Written.{openedWith, rewritten};
+ghost use Rattle.listening.specs.Handed.{planOf, storeRefusal, lookedAt};
 use model::Answer;
 use model::Call;
 use model::Entry;
+use model::Figures;
 use model::Plan;
 use model::sizes;
 use model::sizes::STORE_LENGTH;
 use model::sizes::STREAMS;
+use replay::Standing;
 use rules::answering;
+use rules::asking;
+use rules::plan;
+use rules::refusing;
+
+// The last refusal of a lot, of a run or block, and of a stop: given where the step of the plan fails.
+const COUNTS_DISAGREE: u32 = 13;
+
+const OUT_OF_PHASE: u32 = 14;
+
+const OUT_OF_RANGE: u32 = 15;
 
 // Opens a stream with a plan.
 pub fn open(store: &mut [u8], stream: u32, kind: u32, option: u32, a: u32, b: u32) -> Answer
     ensures { λ r. ⌜ record { answer = r; store = now (store .exit) } ≡ onStore (now (store .entry)) (on stream (Open (planOf kind option a b))) ⌝ }
 {
-    answering::refused(open_as(store, stream, kind, option, a, b))
+    let standing = look(store, stream, 0);
+    if standing.refusal == 0 {
+        return answering::refused(4);
+    }
+    if standing.refusal != replay::UNOPENED {
+        return answering::refused(standing.refusal);
+    }
+    let plan = Plan { kind, option, a, b };
+    if !plan::is_valid(plan) {
+        return answering::refused(5);
+    }
+    put_plan(store, stream, plan);
+    answering::gives(0, 0, 0)
 }
 
-// Enters a lot. As in every call that writes, the part of the store that starts at the stream's offset is lent on.
+// Enters a lot.
 pub fn lot(
     store: &mut [u8],
     stream: u32,
@@ -40,98 +72,219 @@ pub fn lot(
 ) -> Answer
     ensures { λ r. ⌜ record { answer = r; store = now (store .exit) } ≡ onStore (now (store .entry)) (on stream (Enter (Lot label size sample wrong «wrong_in_all»))) ⌝ }
 {
-    let refusal = refusal_of(store.len(), stream);
+    words::in_words(enter_lot(store, stream, label, size, sample, wrong, wrong_in_all))
+}
+
+fn enter_lot(
+    store: &mut [u8],
+    stream: u32,
+    label: u32,
+    size: u32,
+    sample: u32,
+    wrong: u32,
+    wrong_in_all: u32,
+) -> Answer
+    ensures { λ r. ⌜ record { answer = r; store = now (store .exit) } ≡ onStore (now (store .entry)) (on stream (Enter (Lot label size sample wrong «wrong_in_all»))) ⌝ }
+{
+    let standing = look(store, stream, 0);
+    if standing.refusal != 0 {
+        return answering::refused(standing.refusal);
+    }
+    let plan = standing.plan;
+    let before = standing.figures;
+    let count = standing.count;
+    let refusal = refusing::lot(plan, before, count, label, size, sample);
     if refusal != 0 {
         return answering::refused(refusal);
     }
-    let start = start_of(stream);
-    let end = start + sizes::AREA_LENGTH;
-    words::in_words(areas::lot(
-        &mut store[start..end],
+    let tried = replay::step_lot(plan, before, label, size, wrong, wrong_in_all);
+    if !tried.sound {
+        return answering::refused(COUNTS_DISAGREE);
+    }
+    let after = tried.figures;
+    let answer = answering::lot(plan, before, after, size, wrong, wrong_in_all);
+    put_entry(
+        store,
+        stream,
+        count,
+        records::LOT,
+        0,
         label,
         size,
-        sample,
         wrong,
         wrong_in_all,
-    ))
+        after,
+    );
+    answer
 }
 
 // Enters a run.
 pub fn run(store: &mut [u8], stream: u32, right: u32, wrong: u32) -> Answer
     ensures { λ r. ⌜ record { answer = r; store = now (store .exit) } ≡ onStore (now (store .entry)) (on stream (Enter (Run right wrong))) ⌝ }
 {
-    let refusal = refusal_of(store.len(), stream);
+    words::in_words(enter_run(store, stream, right, wrong))
+}
+
+fn enter_run(store: &mut [u8], stream: u32, right: u32, wrong: u32) -> Answer
+    ensures { λ r. ⌜ record { answer = r; store = now (store .exit) } ≡ onStore (now (store .entry)) (on stream (Enter (Run right wrong))) ⌝ }
+{
+    let standing = look(store, stream, 0);
+    if standing.refusal != 0 {
+        return answering::refused(standing.refusal);
+    }
+    let plan = standing.plan;
+    let count = standing.count;
+    let refusal = refusing::run(plan, count, right, wrong);
     if refusal != 0 {
         return answering::refused(refusal);
     }
-    let start = start_of(stream);
-    let end = start + sizes::AREA_LENGTH;
-    words::in_words(areas::run(&mut store[start..end], right, wrong))
+    let tried = replay_continuous::enter_run(plan, standing.figures, right, wrong);
+    if !tried.sound {
+        return answering::refused(OUT_OF_PHASE);
+    }
+    let after = tried.figures;
+    put_entry(
+        store,
+        stream,
+        count,
+        records::RUN,
+        wrong as u8,
+        right,
+        0,
+        0,
+        0,
+        after,
+    );
+    answering::run(after, right)
 }
 
 // Enters a block.
 pub fn block(store: &mut [u8], stream: u32, heard: u32, wrong: u32) -> Answer
     ensures { λ r. ⌜ record { answer = r; store = now (store .exit) } ≡ onStore (now (store .entry)) (on stream (Enter (Block heard wrong))) ⌝ }
 {
-    let refusal = refusal_of(store.len(), stream);
+    words::in_words(enter_block(store, stream, heard, wrong))
+}
+
+fn enter_block(store: &mut [u8], stream: u32, heard: u32, wrong: u32) -> Answer
+    ensures { λ r. ⌜ record { answer = r; store = now (store .exit) } ≡ onStore (now (store .entry)) (on stream (Enter (Block heard wrong))) ⌝ }
+{
+    let standing = look(store, stream, 0);
+    if standing.refusal != 0 {
+        return answering::refused(standing.refusal);
+    }
+    let plan = standing.plan;
+    let before = standing.figures;
+    let count = standing.count;
+    let refusal = refusing::block(plan, count, heard, wrong);
     if refusal != 0 {
         return answering::refused(refusal);
     }
-    let start = start_of(stream);
-    let end = start + sizes::AREA_LENGTH;
-    words::in_words(areas::block(&mut store[start..end], heard, wrong))
+    let tried = replay_continuous::enter_block(plan, before, heard, wrong);
+    if !tried.sound {
+        return answering::refused(OUT_OF_PHASE);
+    }
+    let after = tried.figures;
+    let answer = answering::block(plan, before, after, heard, wrong);
+    put_entry(
+        store,
+        stream,
+        count,
+        records::BLOCK,
+        wrong as u8,
+        heard,
+        0,
+        0,
+        0,
+        after,
+    );
+    answer
 }
 
 // Enters a stop.
 pub fn stop(store: &mut [u8], stream: u32, why: u32, days: u32) -> Answer
     ensures { λ r. ⌜ record { answer = r; store = now (store .exit) } ≡ onStore (now (store .entry)) (on stream (Enter (Stop why days))) ⌝ }
 {
-    let refusal = refusal_of(store.len(), stream);
+    words::in_words(enter_stop(store, stream, why, days))
+}
+
+fn enter_stop(store: &mut [u8], stream: u32, why: u32, days: u32) -> Answer
+    ensures { λ r. ⌜ record { answer = r; store = now (store .exit) } ≡ onStore (now (store .entry)) (on stream (Enter (Stop why days))) ⌝ }
+{
+    let standing = look(store, stream, 0);
+    if standing.refusal != 0 {
+        return answering::refused(standing.refusal);
+    }
+    let count = standing.count;
+    let refusal = refusing::stop(standing.figures, count);
     if refusal != 0 {
         return answering::refused(refusal);
     }
-    let start = start_of(stream);
-    let end = start + sizes::AREA_LENGTH;
-    words::in_words(areas::stop(&mut store[start..end], why, days))
+    let tried = replay::step_stop(standing.plan, standing.figures, why, days);
+    if !tried.sound {
+        return answering::refused(OUT_OF_RANGE);
+    }
+    put_entry(
+        store,
+        stream,
+        count,
+        records::STOP,
+        why as u8,
+        days,
+        0,
+        0,
+        0,
+        tried.figures,
+    );
+    answering::gives(0, 0, 0)
 }
 
-// Takes the newest entry back.
+// Takes the newest entry back. The look sets it apart, and gives the figures before it: they can't be had from those after.
 pub fn back(store: &mut [u8], stream: u32) -> Answer
     ensures { λ r. ⌜ record { answer = r; store = now (store .exit) } ≡ onStore (now (store .entry)) (on stream Back) ⌝ }
 {
-    let refusal = refusal_of(store.len(), stream);
-    if refusal != 0 {
-        return answering::refused(refusal);
+    let standing = look(store, stream, 1);
+    if standing.refusal != 0 {
+        return answering::refused(standing.refusal);
     }
-    let start = start_of(stream);
-    let end = start + sizes::AREA_LENGTH;
-    areas::take_back(&mut store[start..end])
+    if standing.count == 0 {
+        return answering::refused(16);
+    }
+    let kind = take_entry(store, stream, standing.count - 1, standing.figures);
+    answering::gives(kind, 0, 0)
 }
 
-// The sample that a lot would ask for.
+// The sample that a lot would ask for. Ask and Read borrow the store with `&`, so that they can't write.
 pub fn ask(store: &[u8], stream: u32, size: u32) -> Answer
     ensures { λ r. ⌜ record { answer = r; store = now (store .entry) } ≡ onStore (now (store .entry)) (on stream (Ask size)) ⌝ }
 {
-    let refusal = refusal_of(store.len(), stream);
+    let standing = look(store, stream, 0);
+    if standing.refusal != 0 {
+        return answering::refused(standing.refusal);
+    }
+    let plan = standing.plan;
+    let figures = standing.figures;
+    let refusal = refusing::ask(plan, figures, size);
     if refusal != 0 {
         return answering::refused(refusal);
     }
-    let start = start_of(stream);
-    let end = start + sizes::AREA_LENGTH;
-    areas::ask(&store[start..end], size)
+    answering::gives(asking::sample(plan, figures, size), 0, 0)
 }
 
 // The count, what is accepted, and the figure of the plan.
 pub fn read(store: &[u8], stream: u32) -> Answer
     ensures { λ r. ⌜ record { answer = r; store = now (store .entry) } ≡ onStore (now (store .entry)) (on stream Read) ⌝ }
 {
-    let refusal = refusal_of(store.len(), stream);
-    if refusal != 0 {
-        return answering::refused(refusal);
+    let standing = look(store, stream, 0);
+    if standing.refusal != 0 {
+        return answering::refused(standing.refusal);
     }
-    let start = start_of(stream);
-    let end = start + sizes::AREA_LENGTH;
-    areas::read(&store[start..end])
+    let plan = standing.plan;
+    let figures = standing.figures;
+    answering::gives(
+        standing.count as u32,
+        figures.accepted as u32,
+        answering::read_figure(plan, figures),
+    )
 }
 
 // Makes any of the calls.
@@ -139,32 +292,12 @@ pub fn make(store: &mut [u8], stream: u32, call: Call) -> Answer
     ensures { λ r. ⌜ record { answer = r; store = now (store .exit) } ≡ onStore (now (store .entry)) (on stream call) ⌝ }
 {
     match call {
-        Call::Open(plan) => answering::refused(open_as(
-            store,
-            stream,
-            plan.kind,
-            plan.option,
-            plan.a,
-            plan.b,
-        )),
+        Call::Open(plan) => open(store, stream, plan.kind, plan.option, plan.a, plan.b),
         Call::Enter(entry) => enter(store, stream, entry),
         Call::Back => back(store, stream),
         Call::Ask(size) => ask(store, stream, size),
         Call::Read => read(store, stream),
     }
-}
-
-// Opens a stream: gives the refusal, or 0.
-fn open_as(store: &mut [u8], stream: u32, kind: u32, option: u32, a: u32, b: u32) -> u32
-    ensures { λ r. ⌜ record { answer = refusedBy r; store = now (store .exit) } ≡ onStore (now (store .entry)) (on stream (Open (planOf kind option a b))) ⌝ }
-{
-    let refusal = refusal_of(store.len(), stream);
-    if refusal != 0 {
-        return refusal;
-    }
-    let start = start_of(stream);
-    let end = start + sizes::AREA_LENGTH;
-    areas::open(&mut store[start..end], Plan { kind, option, a, b })
 }
 
 // Enters a lot, run, block or stop.
@@ -183,6 +316,70 @@ fn enter(store: &mut [u8], stream: u32, entry: Entry) -> Answer
         Entry::Block { heard, wrong } => block(store, stream, heard, wrong),
         Entry::Stop { why, days } => stop(store, stream, why, days),
     }
+}
+
+// What a call sees of its stream, with the figures before so many of the newest entries: refusals 1 and 2, then what the area says.
+fn look(store: &[u8], stream: u32, newest: usize) -> Standing
+    ensures { λ r. ⌜ r ≡ lookedAt newest stream (now (store .entry)) ⌝ }
+{
+    let refusal = refusal_of(store.len(), stream);
+    if refusal != 0 {
+        return replay::nothing(refusal);
+    }
+    let start = start_of(stream);
+    let end = start + sizes::AREA_LENGTH;
+    replay::read(&store[start..end], newest)
+}
+
+// The part of the store that starts at the stream's offset is lent on, to be opened with a plan.
+fn put_plan(store: &mut [u8], stream: u32, plan: Plan)
+    requires { ⌜ (length (now store) ≡ storeLength) × (stream < streams) × T (validPlan plan) ⌝ }
+    ensures { λ _. ⌜ now (store .exit) ≡ written (startOf stream) (openedWith plan (areaAt stream (now (store .entry)))) (now (store .entry)) ⌝ }
+{
+    let start = start_of(stream);
+    let end = start + sizes::AREA_LENGTH;
+    areas::open(&mut store[start..end], plan);
+}
+
+// The same for one entry more.
+fn put_entry(
+    store: &mut [u8],
+    stream: u32,
+    count: usize,
+    kind: u8,
+    flag: u8,
+    a: u32,
+    b: u32,
+    c: u32,
+    d: u32,
+    figures: Figures,
+)
+    requires { ⌜ (length (now store) ≡ storeLength) × (stream < streams) × (count < mostRecords) × LevelFits (figures .level) ⌝ }
+    ensures { λ _. ⌜ now (store .exit) ≡ written (startOf stream) (rewritten count (recordBytes kind flag a b c d) (count + 1) figures (areaAt stream (now (store .entry)))) (now (store .entry)) ⌝ }
+{
+    let start = start_of(stream);
+    let end = start + sizes::AREA_LENGTH;
+    areas::put_entry(
+        &mut store[start..end],
+        count,
+        kind,
+        flag,
+        a,
+        b,
+        c,
+        d,
+        figures,
+    );
+}
+
+// And for one less; gives its kind.
+fn take_entry(store: &mut [u8], stream: u32, last: usize, figures: Figures) -> u32
+    requires { ⌜ (length (now store) ≡ storeLength) × (stream < streams) × (last < mostRecords) × LevelFits (figures .level) ⌝ }
+    ensures { λ r. ⌜ (r ≡ recordIn (recordAt (areaAt stream (now (store .entry))) last) .kind) × (now (store .exit) ≡ written (startOf stream) (rewritten last (zeros recordLength) last figures (areaAt stream (now (store .entry)))) (now (store .entry))) ⌝ }
+{
+    let start = start_of(stream);
+    let end = start + sizes::AREA_LENGTH;
+    areas::take_entry(&mut store[start..end], last, figures)
 }
 
 // The refusals that come before the area is looked at: 1 for a store of another length, 2 for a stream that does not exist.

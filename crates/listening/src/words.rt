@@ -1,5 +1,6 @@
-// An answer in two words. A struct goes from function to function in memory: as four numbers, written one by one and read in words
-// by the caller, it makes the processor wait. An answer that has been in words is written in words.
+// An answer in two words. Speed: a struct goes from function to function in memory: as four numbers, written one by one and read in words
+// by the caller, it makes the processor wait. An answer that has been in words is written in words. Without it a call that enters
+// something takes 1.11 times as long where it is refused at once, and a lot on a short level stream 1.12 times.
 ghost use mathlib.Core.Path.{_≡_};
 ghost use Prim.Native.Nat.{_%_, _/_};
 ghost use Rattle.listening.specs.Handed.{answerIn};

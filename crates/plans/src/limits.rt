@@ -1,6 +1,11 @@
 // The ranges that paper 01 sets, once for all code; specs/Limits.antt has them for the definitions, with the refusal of each.
 pub const LARGEST_LOT: u32 = 1000000;
 
+pub const LEAST_LOT: u32 = 1;
+
+// Of a level stream.
+pub const LEAST_LEVEL_LOT: u32 = 2;
+
 // An AOQL, in millionths.
 pub const LARGEST_AOQL: u32 = 500000;
 

@@ -1,3 +1,2 @@
 -- Laws of what an area says, and of figures that are lent.
-pub mod Lent
 pub mod Readings

@@ -1,7 +1,7 @@
 -- What an area says: one law for each answer of the code. Assumes nothing.
 use Prim.Native.Nat.{ℕ, zero, suc, _+_, _*_, _-_, _≤_, _<_}
 use mathlib.Core.Path.{_≡_, refl, sym, ap, _∙_}
-use mathlib.Core.Bool.{Bool, true, false}
+use mathlib.Core.Bool.{Bool, true, false, cond}
 use mathlib.Core.List.{List, _++_}
 use native.Mathlib.Omega.{arith}
 use lib.ListN.{length, getD, drop}
@@ -48,32 +48,32 @@ fits-no-failed p area count fails = refuted (λ fits. never-both (standTo p area
 module _ (newest : ℕ) where
   -- where the first byte is 0, the area is sound if all bytes are
   pub says-unopened : (area : List ℕ) (clear : Bool) → length area ≡ areaLength → getD area 0 0 ≡ 0
-      → Decides clear (drop 0 area ≡ zeros (length area - 0)) → nothingStands clear ≡ standingOf newest (reading area)
+      → Decides clear (drop 0 area ≡ zeros (length area - 0)) → nothingStands (cond clear 6 3) ≡ standingOf newest (reading area)
   unfolding standingOf areaOf admissibleStation
   says-unopened area true l first test =
       let all : area ≡ zeros areaLength = rw l at (test .shows refl) in
       rw (ap reading all ∙ reading-of-area unopened tt)
   says-unopened area false l first test = go (reading area) refl
     where
-      go : (r : Reading) → reading area ≡ r → nothingStands false ≡ standingOf newest (reading area)
+      go : (r : Reading) → reading area ≡ r → nothingStands 3 ≡ standingOf newest (reading area)
       go unsound e = rw e
       go (holds unopened) e = absurd (decided-not test refl (rw l (zero-parts area e)))
       go (holds (opened p es)) e = absurd (sound-parts p es area e .kind first)
 
   -- where it is not, and no opened station has left the area, the area is unsound
   module _ (area : List ℕ) (first : getD area 0 0 ≡ 0 → ⊥) where
-    says-unsound : ((p : Plan) (es : List Entry) → SoundParts p es area → ⊥) → nothingStands false ≡ standingOf newest (reading area)
+    says-unsound : ((p : Plan) (es : List Entry) → SoundParts p es area → ⊥) → nothingStands 3 ≡ standingOf newest (reading area)
     unfolding standingOf
     says-unsound never = go (reading area) refl
       where
-        go : (r : Reading) → reading area ≡ r → nothingStands false ≡ standingOf newest (reading area)
+        go : (r : Reading) → reading area ≡ r → nothingStands 3 ≡ standingOf newest (reading area)
         go unsound e = rw e
         go (holds unopened) e = absurd (first (ap (λ (a : List ℕ). getD a 0 0) (zero-parts area e)))
         go (holds (opened p es)) e = absurd (never p es (sound-parts p es area e))
 
     -- the plan is none that a stream is opened with
     pub says-invalid : (plan : Plan) (valid : Bool) → plan ≡ planIn area → valid ≡ validPlan plan → valid ≡ false
-        → nothingStands false ≡ standingOf newest (reading area)
+        → nothingStands 3 ≡ standingOf newest (reading area)
     says-invalid plan valid planned same fails =
         says-unsound
         (λ p es parts.
@@ -81,7 +81,7 @@ module _ (newest : ℕ) where
         (ap validPlan (sym (planned ∙ parts .plan)) ∙ sym same ∙ fails))
 
     -- there are more records than an area holds
-    pub says-crowded : (count : ℕ) → count ≡ countIn area → 128 < count → nothingStands false ≡ standingOf newest (reading area)
+    pub says-crowded : (count : ℕ) → count ≡ countIn area → 128 < count → nothingStands 3 ≡ standingOf newest (reading area)
     says-crowded count counted more = says-unsound (λ p es parts. omega (arith, counted, parts .count, parts .room))
 
   module _ (area : List ℕ) (plan : Plan) (count : ℕ) (header : Headed area plan count) where
@@ -93,7 +93,7 @@ module _ (newest : ℕ) where
 
     -- one of the first records cannot stand
     pub says-failed : (r : Entered) (to : ℕ) → to ≤ count → Replayed plan area to r → r .sound ≡ false
-        → nothingStands false ≡ standingOf newest (reading area)
+        → nothingStands 3 ≡ standingOf newest (reading area)
     says-failed r to most replayed fails =
         let fewer = stand-fails plan area to count most (sym (replayed .allStand) ∙ fails) in
         says-unsound area (header .kind)
@@ -102,7 +102,7 @@ module _ (newest : ℕ) where
 
     -- the newest records cannot stand, or the figures stored are others
     pub says-other : (fits : Bool) → Decides fits (HeaderFits plan area count) → fits ≡ false
-        → nothingStands false ≡ standingOf newest (reading area)
+        → nothingStands 3 ≡ standingOf newest (reading area)
     unfolding figuresTo
     says-other fits test fails =
         says-unsound area (header .kind)
@@ -116,7 +116,7 @@ module _ (newest : ℕ) where
     -- something stands behind the last record
     pub says-more : (clear : Bool)
         → Decides clear (drop (headerLength + recordLength * count) area ≡ zeros (length area - (headerLength + recordLength * count)))
-        → clear ≡ false → nothingStands false ≡ standingOf newest (reading area)
+        → clear ≡ false → nothingStands 3 ≡ standingOf newest (reading area)
     says-more clear test fails =
         says-unsound area (header .kind)
         (λ p es parts. decided-not test fails (rw (same-count p es parts) at (parts .rest)))
@@ -124,7 +124,7 @@ module _ (newest : ℕ) where
     -- all of it is as calls leave it
     pub says-opened : (before : Figures) → AreBytes area → before ≡ figuresTo plan area (count - newest) → HeaderFits plan area count
         → drop (headerLength + recordLength * count) area ≡ zeros (length area - (headerLength + recordLength * count))
-        → record { sound = true; opened = true; plan = plan; count = count; figures = before } ≡ standingOf newest (reading area)
+        → record { plan = plan; figures = before; count = count; refusal = 0 } ≡ standingOf newest (reading area)
     unfolding standingOf figuresTo
     says-opened before b older fits clear =
         let planned = header .planned in

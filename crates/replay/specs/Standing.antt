@@ -1,6 +1,6 @@
 -- What an area says, as the code tells it. Assumes nothing.
 use Prim.Native.Nat.{ℕ, _≤_}
-use mathlib.Core.Bool.{Bool, true, false}
+use mathlib.Core.Bool.{true}
 use mathlib.Core.List.{List, _++_}
 use mathlib.Core.Path.{_≡_}
 use lib.Dec.{T}
@@ -14,32 +14,20 @@ use Rattle.model.specs.Area.{zeros, figureBytes, planIn, countIn, Reading, unso
 use Rattle.replaying.specs.Replaying.{figuresTo, standTo}
 use Rattle.replay.specs.declared.Standing.{Standing}
 
--- an area that is unsound or unopened has no plan and no figures to tell of
+-- the plan of a stream that has none
 abbrev pub noPlan : Plan
 noPlan = record { kind = 0; option = 0; a = 0; b = 0 }
 
-unfoldable pub nothingStands : Bool → Standing
-nothingStands sound =
-    record {
-      sound = sound;
-      opened = false;
-      plan = noPlan;
-      count = 0;
-      figures = started noPlan;
-    }
+-- nothing but a refusal to tell of
+unfoldable pub nothingStands : ℕ → Standing
+nothingStands refusal = record { plan = noPlan; figures = started noPlan; count = 0; refusal = refusal }
 
--- what a reading says, with the figures before the newest entries, so many of them
+-- what a reading says: the refusal of every call but Open, or the station, with the figures before so many of the newest entries
 unfoldable pub standingOf : ℕ → Reading → Standing
-standingOf newest unsound = nothingStands false
-standingOf newest (holds unopened) = nothingStands true
+standingOf newest unsound = nothingStands 3
+standingOf newest (holds unopened) = nothingStands 6
 standingOf newest (holds (opened p es)) =
-    record {
-      sound = true;
-      opened = true;
-      plan = p;
-      count = length es;
-      figures = figuresOf p (drop newest es);
-    }
+    record { plan = p; figures = figuresOf p (drop newest es); count = length es; refusal = 0 }
 
 -- an area whose header has a plan that is valid and a count that fits
 pub record Headed (area : List ℕ) (plan : Plan) (count : ℕ) : Type 0 where

@@ -1,11 +1,14 @@
 // Reading an area: its records are replayed by the loop of its plan, and its figures and zeros compared with what they leave.
 ghost use mathlib.Core.Path.{_≡_};
+ghost use mathlib.Core.Bool.{false, cond};
 ghost use Prim.Native.Nat.{_-_};
 ghost use lib.ListN.{length};
 ghost use Rattle.model.specs.Sizes.{areaLength};
 ghost use Rattle.model.specs.Area.{reading};
 ghost use Rattle.records.specs.Records.{Decides};
-ghost use Rattle.replaying.specs.Replaying.{Ready, Replayed};
+ghost use Rattle.model.specs.declared.Entry.the-variants.{Stop};
+ghost use Rattle.model.specs.Stations.{isContinuous};
+ghost use Rattle.replaying.specs.Replaying.{Ready, Replayed, Reached, tried, askedLot};
 ghost use Rattle.replay.specs.Standing.{nothingStands, standingOf, Headed, HeaderFits};
 use model::Figures;
 use model::Plan;
@@ -13,44 +16,24 @@ use model::sizes;
 use replaying::Entered;
 use rules::plan;
 
-// What an area says: whether it is sound, whether the stream is opened, and if so with which plan, how many records stand, and the
-// figures before the newest of them, which are the figures now where none is set apart.
-//
-// The two flags come last, so that the rest is copied in whole words.
+// What an area says: the refusal of every call but Open, 3 where it is unsound, 6 where the stream is unopened; and where that is 0 with which
+// plan the stream is opened, how many records stand, and the figures before the newest of them, which are the figures now where none
+// is set apart.
 pub struct Standing {
     pub plan: Plan,
     pub figures: Figures,
     pub count: usize,
-    pub sound: bool,
-    pub opened: bool,
+    pub refusal: u32,
 }
 
-// The figures after more of an area's records, and whether each of these could stand. The figures are lent to `bring` here alone,
-// so no other caller has a reference to them.
+// The refusals that an area gives of itself: no calls could have left it; the stream is not opened.
+const UNSOUND: u32 = 3;
+
+pub const UNOPENED: u32 = 6;
+
+// The figures after more of an area's records, and whether each of these could stand: a loop for each plan, which brings the figures up
+// to date entry after entry.
 pub fn replay(area: &[u8], plan: Plan, figures: Figures, from: usize, to: usize) -> Entered
-    requires { ⌜ Ready plan (now area) figures from to ⌝ }
-    ensures { λ r. ⌜ Replayed plan (now (area .entry)) to r ⌝ }
-{
-    let mut brought = figures;
-    let sound = bring(&mut brought, area, plan, from, to);
-    Entered {
-        sound,
-        figures: brought,
-    }
-}
-
-// Brings one stream's figures up to date with more of its area's records; answers whether each of these could stand.
-fn bring(figures: &mut Figures, area: &[u8], plan: Plan, from: usize, to: usize) -> bool
-    requires { ⌜ Ready plan (now area) (now figures) from to ⌝ }
-    ensures { λ r. ⌜ Replayed plan (now (area .entry)) to (record { sound = r; figures = now (figures .exit) }) ⌝ }
-{
-    let step = replay_records(area, plan, *figures, from, to);
-    *figures = step.figures;
-    step.sound
-}
-
-// The same with the figures by value: a loop for each plan.
-fn replay_records(area: &[u8], plan: Plan, figures: Figures, from: usize, to: usize) -> Entered
     requires { ⌜ Ready plan (now area) figures from to ⌝ }
     ensures { λ r. ⌜ Replayed plan (now (area .entry)) to r ⌝ }
 {
@@ -63,21 +46,53 @@ fn replay_records(area: &[u8], plan: Plan, figures: Figures, from: usize, to: us
     replay_continuous::replay(area, plan, figures, from, to)
 }
 
+// A lot more on a stream's figures, by the step of its plan: whether it could stand, and the figures after it.
+pub fn step_lot(
+    plan: Plan,
+    figures: Figures,
+    label: u32,
+    size: u32,
+    wrong: u32,
+    wrong_in_all: u32,
+) -> Entered
+    requires { ⌜ Reached plan figures × (isContinuous plan ≡ false) ⌝ }
+    ensures { λ r. ⌜ r ≡ tried plan figures (askedLot plan figures label size wrong «wrong_in_all») ⌝ }
+{
+    if plan.kind == plan::CREDIT {
+        return replay_credit::enter_lot(plan, figures, label, size, wrong, wrong_in_all);
+    }
+    replay_level::enter_lot(plan, figures, label, size, wrong, wrong_in_all)
+}
+
+// The same of a stop. Runs and blocks are entered on continuous streams alone (`replay_continuous::enter_run` and `enter_block`).
+pub fn step_stop(plan: Plan, figures: Figures, why: u32, days: u32) -> Entered
+    requires { ⌜ Reached plan figures ⌝ }
+    ensures { λ r. ⌜ r ≡ tried plan figures (Stop why days) ⌝ }
+{
+    if plan.kind == plan::CREDIT {
+        return replay_credit::enter_stop(plan, figures, why, days);
+    }
+    if plan.kind == plan::LEVEL {
+        return replay_level::enter_stop(plan, figures, why, days);
+    }
+    replay_continuous::enter_stop(plan, figures, why, days)
+}
+
 // What an area says, with the figures before so many of its newest records.
 pub fn read(area: &[u8], newest: usize) -> Standing
     requires { ⌜ length (now area) ≡ areaLength ⌝ }
     ensures { λ r. ⌜ r ≡ standingOf newest (reading (now (area .entry))) ⌝ }
 {
     if area[0] == 0 {
-        return nothing(records::is_zero_from(area, 0));
+        return empty(records::is_zero_from(area, 0));
     }
     let plan = records::get_plan(area);
     if !plan::is_valid(plan) {
-        return nothing(false);
+        return nothing(UNSOUND);
     }
     let count = records::get_count(area);
     if sizes::MOST_RECORDS < count {
-        return nothing(false);
+        return nothing(UNSOUND);
     }
     read_records(area, plan, count, newest)
 }
@@ -92,21 +107,20 @@ fn read_records(area: &[u8], plan: Plan, count: usize, newest: usize) -> Standin
     let first = without(count, newest);
     let older = replay(area, plan, plan::started(plan), 0, first);
     if !older.sound {
-        return nothing(false);
+        return nothing(UNSOUND);
     }
     let before = older.figures;
     if !records::is_zero_from(area, sizes::HEADER_LENGTH + sizes::RECORD_LENGTH * count) {
-        return nothing(false);
+        return nothing(UNSOUND);
     }
     if !fits_header(area, plan, before, first, count) {
-        return nothing(false);
+        return nothing(UNSOUND);
     }
     Standing {
-        sound: true,
-        opened: true,
         plan,
-        count,
         figures: before,
+        count,
+        refusal: 0,
     }
 }
 
@@ -126,9 +140,9 @@ fn fits_header(area: &[u8], plan: Plan, figures: Figures, from: usize, to: usize
     records::has_figures(area, all.figures)
 }
 
-// The replay of the newest records. The loops are chosen here once more, so that each has two callers: it is then compiled as a
-// function of its own, with the registers for itself. Chosen in one place, all three are inlined there, and a record costs up to 14
-// per cent more instructions.
+// The replay of the newest records. Speed: the loops are chosen here once more, so that each has two callers: it is then compiled as a
+// function of its own, with the registers for itself. Chosen in one place, all three are inlined there, and a call on a long stream of
+// good lots takes up to a sixth longer on level plans and a third on credit plans.
 fn replay_newest(area: &[u8], plan: Plan, figures: Figures, from: usize, to: usize) -> Entered
     requires { ⌜ Ready plan (now area) figures from to ⌝ }
     ensures { λ r. ⌜ Replayed plan (now (area .entry)) to r ⌝ }
@@ -152,9 +166,19 @@ fn without(count: usize, newest: usize) -> usize
     count - newest
 }
 
-// An area that has no plan and no figures to tell of.
-fn nothing(sound: bool) -> Standing
-    ensures { λ r. ⌜ r ≡ nothingStands sound ⌝ }
+// What an area says whose first byte is 0, by whether all others are too.
+fn empty(clear: bool) -> Standing
+    ensures { λ r. ⌜ r ≡ nothingStands (cond clear 6 3) ⌝ }
+{
+    if clear {
+        return nothing(UNOPENED);
+    }
+    nothing(UNSOUND)
+}
+
+// Nothing but a refusal to tell of.
+pub fn nothing(refusal: u32) -> Standing
+    ensures { λ r. ⌜ r ≡ nothingStands refusal ⌝ }
 {
     let plan = Plan {
         kind: 0,
@@ -164,10 +188,9 @@ fn nothing(sound: bool) -> Standing
     };
     let figures = plan::started(plan);
     Standing {
-        sound,
-        opened: false,
         plan,
-        count: 0,
         figures,
+        count: 0,
+        refusal,
     }
 }

@@ -1,5 +1,6 @@
--- Laws of a continuous stream's records and state.
-pub mod Kept
-pub mod Entering
+-- Laws of a continuous stream's figures in three numbers.
+pub mod Carries
 pub mod Phases
+pub mod Accepting
+pub mod Steps
 pub mod Turning

@@ -1,98 +1,95 @@
--- The state of a continuous stream is always one that the replay's numbers stand for. Assumes nothing.
+-- The figures that calls leave on a continuous stream are those of a place: in screening short of the clearance number, or in sampling, and all
+-- else foreign. By induction over the entries. Assumes nothing.
 use Prim.Native.Nat.{ℕ, _+_, _-_, _≤_, _<_}
-use mathlib.Core.Path.{_≡_, refl, sym, ap, _∙_}
+use mathlib.Core.Path.{_≡_, refl}
 use mathlib.Core.Bool.{Bool, true, false, cond, _&&_, _||_}
 use mathlib.Core.List.{List, [], _∷_}
 use native.Mathlib.Omega.{arith}
 use lib.Dec.{T, eqb}
 use lib.ListN.{length}
-use borrow.Author.Tests.{eq-eqb, eqb-false}
+use borrow.Author.Tests.{eq-eqb, ne-eqb, eqb-false}
 use Rattle.plans.specs.declared.continuous.Continuous.{Continuous}
 use Rattle.plans.specs.Stops.{setUpChanged, longStop}
 use Rattle.plans.specs.Continuous.{screening, sampling, isSampling, afterRun, afterBlock, afterStop}
 use Rattle.plans.proofs.Booleans.{either}
 use Rattle.model.specs.declared.Plan.{Plan}
+use Rattle.model.specs.declared.Figures.{Figures}
 use Rattle.model.specs.declared.Entry.{Entry}
 use Rattle.model.specs.declared.Entry.the-variants.{Lot, Run, Block, Stop}
-use Rattle.model.specs.Stations.{validPlan, isContinuous}
-use Rattle.model.specs.Figuring.{noLabel, started, continuousStep, isLot, stepped, figuresOf}
-use Rattle.model.specs.Calls.{admissible}
+use Rattle.model.specs.Stations.{validPlan, isLevel, isContinuous}
+use Rattle.model.specs.Figuring.{started, creditStep, levelStep, continuousStep, acceptedBy, isLot, stepped, figuresOf}
+use Rattle.model.specs.Calls.{firstOf, entryRefusals, admissible}
 use Rattle.model.proofs.Booleans.{never-both}
 use Rattle.model.proofs.Allowed.{allowed-lot, allowed-run, newest-of, continuous-plan}
-use Rattle.replay_continuous.specs.Places.{leftOf, stateOf, Placed}
-use Rattle.replay_continuous.proofs.Entering.{screened}
+use Rattle.replaying.specs.Replaying.{Reached}
+use Rattle.replay_continuous.specs.Places.{leftOf, stateOf, figuresWith, figuresIn, placeFrom}
 
--- screening short of the clearance number i, or sampling
-pub data InPhase (i : ℕ) : Continuous → Type 0 where
-  inScreening : (c : ℕ) → c < i → InPhase i (screening c)
-  inSampling : (u : ℕ) → u ≤ 200 → InPhase i (sampling u)
+-- figures that a place stands for
+pub record Placed (p : Plan) (f : Figures) : Type 0 where
+  pub counts : f .continuous .count ≤ p .a
+  pub least : leftOf (p .a) (f .continuous) ≤ p .a
+  pub same : figuresIn (p .a) (placeFrom (p .a) f) ≡ f
 
--- a run to the clearance number at most
-run-in-phase : (i count : ℕ) → count ≤ i → InPhase i (cond (eqb count i) (sampling 0) (screening count))
-run-in-phase i count most = go (eqb count i) refl
-  where
-    go : (b : Bool) → eqb count i ≡ b → InPhase i (cond b (sampling 0) (screening count))
-    go true e = inSampling 0 (omega arith)
-    go false e = let other = eqb-false count i e in inScreening count (omega arith)
+module _ (p : Plan) (n : ℕ) where
+  in-screening : (c : ℕ) → c < p .a → Placed p (figuresWith (screening c) n)
+  unfolding figuresIn leftOf stateOf screening isSampling
+  in-screening c short =
+      let back : p .a - (p .a - c) ≡ c = omega arith in
+      record { counts = omega arith; least = omega arith; same = rw (ne-eqb (p .a - c) 0 (λ z. omega arith), back) }
+
+  in-sampling : (u : ℕ) → Placed p (figuresWith (sampling u) n)
+  unfolding figuresIn leftOf stateOf sampling isSampling
+  in-sampling u = record { counts = omega arith; least = omega arith; same = refl }
+
+  -- a run to the clearance number at most
+  run-in-phase : (count : ℕ) → count ≤ p .a → Placed p (figuresWith (cond (eqb count (p .a)) (sampling 0) (screening count)) n)
+  run-in-phase count most = go (eqb count (p .a)) refl
+    where
+      go : (b : Bool) → eqb count (p .a) ≡ b → Placed p (figuresWith (cond b (sampling 0) (screening count)) n)
+      go true e = in-sampling 0
+      go false e = let other = eqb-false count (p .a) e in in-screening count (omega arith)
 
 module _ (p : Plan) (valid : T (validPlan p)) (kind : p .kind ≡ 3) where
-  continuous : isContinuous p ≡ true
+  pub continuous : isContinuous p ≡ true
   unfolding isContinuous
   continuous = eq-eqb (p .kind) 3 kind
 
-  anew : InPhase (p .a) (screening 0)
-  anew = inScreening 0 (continuous-plan p valid continuous .clearance)
+  no-level : isLevel p ≡ false
+  unfolding isLevel
+  no-level = rw kind
 
-  -- no lot stands on it
-  no-lot : (label N n d D : ℕ) (es : List Entry) → T (admissible p (Lot label N n d D ∷ es)) → ⊥
-  no-lot label N n d D es ok =
-      let newest = newest-of p (Lot label N n d D) es ok in
-      let allowed = allowed-lot p (figuresOf p es) (length es) label N n d D (newest .accepted) in
-      never-both (isContinuous p) continuous (allowed .lots)
+  anew : (n : ℕ) → Placed p (figuresWith (screening 0) n)
+  anew n = in-screening p n 0 (continuous-plan p valid continuous .clearance)
 
-  pub in-phase : (es : List Entry) → T (admissible p es) → InPhase (p .a) (figuresOf p es .continuous)
-  unfolding figuresOf started stepped continuousStep afterRun afterBlock afterStop
-  in-phase [] ok = anew
-  in-phase (Lot label N n d D ∷ es) ok = absurd (no-lot label N n d D es ok)
-  in-phase (Run h w ∷ es) ok =
-      let newest = newest-of p (Run h w) es ok in
-      let allowed = allowed-run p (figuresOf p es) (length es) h w (newest .accepted) in
-      either (InPhase (p .a)) (eqb w 1) anew (run-in-phase (p .a) (figuresOf p es .continuous .count + h) (omega arith))
-  in-phase (Block q w ∷ es) ok =
-      let plan = continuous-plan p valid continuous in
-      either (InPhase (p .a)) (eqb w 1) anew (inSampling (p .b - q) (omega arith))
-  in-phase (Stop why days ∷ es) ok =
-      let before = in-phase es (newest-of p (Stop why days) es ok .others) in
-      either (InPhase (p .a)) (isContinuous p)
-      (either (InPhase (p .a)) (setUpChanged why || isSampling (figuresOf p es .continuous) && longStop days) anew before)
-      before
+  by-test : (b : Bool) {x y : Continuous} (n : ℕ) → Placed p (figuresWith x n) → Placed p (figuresWith y n) → Placed p (figuresWith (cond b x y) n)
+  by-test b n = either (λ (s : Continuous). Placed p (figuresWith s n)) b
 
-  pub label-foreign : (es : List Entry) → T (admissible p es) → figuresOf p es .newest ≡ noLabel
-  unfolding figuresOf started stepped isLot
-  label-foreign [] ok = refl
-  label-foreign (Lot label N n d D ∷ es) ok = absurd (no-lot label N n d D es ok)
-  label-foreign (Run h w ∷ es) ok = label-foreign es (newest-of p (Run h w) es ok .others)
-  label-foreign (Block q w ∷ es) ok = label-foreign es (newest-of p (Block q w) es ok .others)
-  label-foreign (Stop why days ∷ es) ok = label-foreign es (newest-of p (Stop why days) es ok .others)
+  step-placed : (e : Entry) (s : Continuous) (n i : ℕ) → firstOf (entryRefusals p (figuresWith s n) i e) ≡ 0 → Placed p (figuresWith s n)
+      → Placed p (stepped p e (figuresWith s n))
+  unfolding stepped creditStep levelStep continuousStep afterRun afterBlock afterStop acceptedBy isLot
+  step-placed (Lot label N m d D) s n i ok before =
+      absurd (never-both (isContinuous p) continuous (allowed-lot p (figuresWith s n) i label N m d D ok .lots))
+  step-placed (Run h w) s n i ok before =
+      let allowed = allowed-run p (figuresWith s n) i h w ok in
+      by-test (eqb w 1) (n + h) (anew (n + h)) (run-in-phase p (n + h) (s .count + h) (omega (arith, allowed .fits)))
+  step-placed (Block q w) s n i ok before = by-test (eqb w 1) _ (anew _) (in-sampling p _ (p .b - q))
+  step-placed (Stop why days) s n i ok before =
+      let none : n + 0 ≡ n = omega arith in
+      rw (no-level, continuous, none) (by-test (setUpChanged why || isSampling s && longStop days) n (anew n) before)
 
--- what a state in phase leaves to be screened
-pub record Starts (p : Plan) (s : Continuous) : Type 0 where
-  pub counts : s .count ≤ p .a
-  pub placed : Placed p (leftOf (p .a) s) (s .tail)
-  pub state : s ≡ stateOf (p .a) (leftOf (p .a) s) (s .tail)
+  -- one entry more
+  pub stepped-placed : (e : Entry) (f : Figures) (i : ℕ) → firstOf (entryRefusals p f i e) ≡ 0 → Placed p f → Placed p (stepped p e f)
+  unfolding figuresIn
+  stepped-placed e f i ok before =
+      let state : Continuous = stateOf (p .a) (leftOf (p .a) (f .continuous)) (f .continuous .tail) in
+      rw (before .same) at (step-placed e state (f .accepted) i (rw (before .same) ok) (rw (before .same) before))
 
-pub starts : (p : Plan) (s : Continuous) → InPhase (p .a) s → Starts p s
-unfolding leftOf stateOf screening sampling isSampling
-starts p s (inScreening c h) =
-    let back : p .a - (p .a - c) ≡ c = omega arith in
-    record {
-      counts = omega arith;
-      placed = record { least = omega arith; noTail = λ z. refl; short = omega arith };
-      state = sym (screened (p .a) 0 (p .a - c) (omega arith) ∙ ap screening back);
-    }
-starts p s (inSampling u h) =
-    record {
-      counts = omega arith;
-      placed = record { least = omega arith; noTail = λ z. absurd (omega arith); short = h };
-      state = refl;
-    }
+  pub entries-placed : (es : List Entry) → T (admissible p es) → Placed p (figuresOf p es)
+  unfolding figuresOf started
+  entries-placed [] ok = rw no-level (anew 0)
+  entries-placed (e ∷ es) ok =
+      let newest = newest-of p e es ok in
+      stepped-placed e (figuresOf p es) (length es) (newest .accepted) (entries-placed es (newest .others))
+
+pub reached-placed : (p : Plan) (f : Figures) → Reached p f → p .kind ≡ 3 → Placed p f
+reached-placed p f reached kind = rw (reached .after) (entries-placed p (reached .valid) kind (reached .entries) (reached .stood))

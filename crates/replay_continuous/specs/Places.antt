@@ -1,21 +1,25 @@
 -- A continuous stream (paper 01, "Continuous") as its replay carries it: what is left to be screened, the tail, and how many are
 -- accepted. Assumes nothing.
-use Prim.Native.Nat.{ℕ, _-_, _≤_, _<_}
+use Prim.Native.Nat.{ℕ, _+_, _*_, _-_, _≤_, _<_}
 use mathlib.Core.Path.{_≡_}
-use mathlib.Core.Bool.{true, false, cond}
-use lib.Dec.{T, eqb}
+use mathlib.Core.Bool.{Bool, true, cond}
+use mathlib.Core.List.{List}
+use lib.Dec.{eqb, ltb}
+use lib.ListN.{length}
 use Rattle.plans.specs.declared.continuous.Continuous.{Continuous}
 use Rattle.plans.specs.Continuous.{screening, sampling, isSampling}
-use Rattle.plans.specs.Limits.{largestInterval}
 use Rattle.model.specs.declared.Plan.{Plan}
 use Rattle.model.specs.declared.Figures.{Figures}
-use Rattle.model.specs.Sizes.{mostRecords}
-use Rattle.model.specs.Stations.{validPlan}
+use Rattle.model.specs.Sizes.{recordLength}
+use Rattle.model.specs.Stations.{within}
 use Rattle.model.specs.Figuring.{noLevel, noLabel}
-use Rattle.records.specs.declared.Record.{Record}
 use Rattle.replaying.specs.declared.Entered.{Entered}
-use Rattle.replaying.specs.Replaying.{headOf, enteredIf, entered, NoMore}
+use Rattle.records.specs.declared.Record.{Record}
+use Rattle.replaying.specs.Replaying.{Reached, entered, soundAt, unsoundAt, headOf, oneNumber}
 use Rattle.replay_continuous.specs.declared.Place.{Place}
+use Rattle.replay_continuous.specs.declared.Outcome.{Outcome}
+use Rattle.replay_continuous.specs.declared.Step.{Step}
+use Rattle.replay_continuous.specs.declared.Step.the-variants.{Stands, Fails}
 
 -- what a state leaves to be screened until clearance; 0 in sampling
 unfoldable pub leftOf : ℕ → Continuous → ℕ
@@ -25,50 +29,80 @@ leftOf clearance s = cond (isSampling s) 0 (clearance - s .count)
 unfoldable pub stateOf : ℕ → ℕ → ℕ → Continuous
 stateOf clearance left tail = cond (eqb left 0) (sampling tail) (screening (clearance - left))
 
--- the figures there; those of credit and level are foreign to a continuous stream, and zero, and no lot gives it a label
-unfoldable pub figuresAt : ℕ → ℕ → ℕ → ℕ → Figures
-figuresAt clearance left tail accepted =
+-- the figures of a state; those of credit and level are foreign to a continuous stream, and zero, and no lot gives it a label
+abbrev pub figuresWith : Continuous → ℕ → Figures
+figuresWith state accepted =
     record {
       credit = record { 0 = 0 };
       level = noLevel;
-      continuous = stateOf clearance left tail;
+      continuous = state;
       accepted = accepted;
       newest = noLabel;
     }
 
--- what is left and the tail can be so together
-pub record Placed (p : Plan) (left tail : ℕ) : Type 0 where
-  pub least : left ≤ p .a
-  pub noTail : 1 ≤ left → tail ≡ 0
-  pub short : tail ≤ largestInterval
+-- and of a place
+unfoldable pub figuresIn : ℕ → Place → Figures
+figuresIn clearance s = figuresWith (stateOf clearance (s .left) (s .tail)) (s .accepted)
 
--- what is known before a record is entered
-pub record Known (p : Plan) (left tail accepted : ℕ) : Type 0 where
-  pub valid : T (validPlan p)
+-- and back
+abbrev pub placeOf : ℕ → Continuous → ℕ → Place
+placeOf clearance state accepted =
+    record { left = leftOf clearance state; tail = state .tail; accepted = accepted }
+
+abbrev pub placeFrom : ℕ → Figures → Place
+placeFrom clearance f = placeOf clearance (f .continuous) (f .accepted)
+
+-- numbers of a continuous stream that calls could have left, with a place free
+pub record OnContinuous (p : Plan) (s : Place) : Type 0 where
   pub kind : p .kind ≡ 3
-  pub placed : Placed p left tail
-  pub few : accepted ≤ 128000000
+  pub reached : Reached p (figuresIn (p .a) s)
+  pub least : s .left ≤ p .a
 
--- a record with this head, and no number but the first
-pub record HeadRead (head : ℕ) (r : Record) : Type 0 where
-  pub same : head ≡ headOf r
-  pub kindByte : r .kind < 256
-  pub flagByte : r .flag < 256
-  pub more : NoMore r
+-- what 14 and 15 leave of a run where so many are left to be screened: of h right detections, then a wrong one or none
+unfoldable pub fitsRun : ℕ → ℕ → Bool → Bool
+fitsRun left h wrong = cond wrong (ltb h left) (within 1 left h)
 
--- the place after a record that stands, and the one where none is
-unfoldable pub stoodAt : ℕ → ℕ → ℕ → Place
-stoodAt left tail accepted = record { stands = true; left = left; tail = tail; accepted = accepted }
+-- the flag of a wrong one
+abbrev pub flagOf : Bool → ℕ
+flagOf wrong = cond wrong 1 0
 
-unfoldable pub nowhere : Place
-nowhere = record { stands = false; left = 0; tail = 0; accepted = 0 }
+-- a step in the figures that it is about
+unfoldable pub enteredAs : ℕ → Figures → Step → Entered
+enteredAs clearance f (Stands s) = soundAt (figuresIn clearance s)
+enteredAs clearance f Fails = unsoundAt f
 
--- what a place says of a record that was entered after figures f
-unfoldable pub reached : ℕ → Figures → Place → Entered
-reached clearance f x = enteredIf (x .stands) (figuresAt clearance (x .left) (x .tail) (x .accepted)) f
+-- an outcome in its figures
+unfoldable pub toldAs : ℕ → Outcome → Entered
+toldAs clearance o = record { sound = o .stands; figures = figuresIn clearance (o .place) }
 
--- the place x says what entering the record gives, wherever it is
-pub record Reaches (p : Plan) (left tail accepted : ℕ) (r : Record) (x : Place) : Type 0 where
-  pub placed : Placed p (x .left) (x .tail)
-  pub says : (i : ℕ) → i < mostRecords
-      → entered p (figuresAt (p .a) left tail accepted) i r ≡ reached (p .a) (figuresAt (p .a) left tail accepted) x
+-- no more is left after a step than the clearance number
+unfoldable pub Within : ℕ → Step → Type 0
+Within clearance (Stands s) = s .left ≤ clearance
+Within clearance Fails = Unit {0}
+
+-- a step gives this
+pub record Steps (p : Plan) (s : Place) (x : Step) (gives : Entered) : Type 0 where
+  pub same : enteredAs (p .a) (figuresIn (p .a) s) x ≡ gives
+  pub within : Within (p .a) x
+
+-- a record of one number with this head, read at a place
+pub record Headed (p : Plan) (s : Place) (head : ℕ) (r : Record) : Type 0 where
+  pub on : OnContinuous p s
+  pub read : (head ≡ headOf r) × (r .kind < 256) × (r .flag < 256)
+  pub one : oneNumber r ≡ true
+
+-- which does not stand where its head is a run's or a block's
+pub record NoRunOrBlock (p : Plan) (s : Place) (head : ℕ) (r : Record) : Type 0 where
+  pub known : Headed p s head r
+  pub run : (w : ℕ) → w ≤ 1 → head ≡ 2 + w * 256 → Steps p s Fails (entered p (figuresIn (p .a) s) 0 r)
+  pub block : (w : ℕ) → w ≤ 1 → head ≡ 3 + w * 256 → Steps p s Fails (entered p (figuresIn (p .a) s) 0 r)
+
+-- an outcome tells what a record gives
+pub record Tells (p : Plan) (s : Place) (r : Record) (o : Outcome) : Type 0 where
+  pub same : toldAs (p .a) o ≡ entered p (figuresIn (p .a) s) 0 r
+  pub least : o .place .left ≤ p .a
+
+-- a record whole in the area, and a place before it
+pub record ReadAt (p : Plan) (area : List ℕ) (s : Place) (at : ℕ) : Type 0 where
+  pub inArea : at + recordLength ≤ length area
+  pub on : OnContinuous p s

@@ -1,17 +1,38 @@
-// The replay of a continuous stream's records: paper 01, "Continuous".
+// The replay of a continuous stream's records, and its step: paper 01, "Continuous". The step is the one home of whether a continuous
+// stream's entries may stand, and what they do is `plans`' own (`Continuous::run`, `block` and `stop`): the replay takes it for each
+// record, a call for the entry that it is about to write.
 //
-// It does not carry the state as the area has it. One number, left, is what is still to be screened until clearance, i - c, and 0
-// in sampling: so it says the phase and which run fits, and what changes stays in three registers.
+// It does not carry the state as the area has it. One number, left, is what is still to be screened until clearance, i - c, and 0 in
+// sampling: so it says the phase and which run fits. Speed: what changes stays in three registers, and of `plans`' functions one
+// subtraction is left; with the state itself a long stream takes twice as long.
 ghost use mathlib.Core.Path.{_≡_};
-ghost use mathlib.Core.Bool.{not, _&&_};
 ghost use Prim.Native.Nat.{_≤_};
-ghost use lib.Dec.{eqb};
-ghost use Rattle.model.specs.Stations.{within as isWithin};
-ghost use Rattle.replaying.specs.Replaying.{oneNumber, Ready, Replayed};
-ghost use Rattle.replay_continuous.specs.Places.{leftOf, stateOf, figuresAt, stoodAt, nowhere, Known, HeadRead, Reaches};
+ghost use Rattle.little.specs.Little.{part};
+ghost use Rattle.model.specs.Sizes.{recordLength};
+ghost use Rattle.model.specs.declared.Entry.the-variants.{Run, Block, Stop};
+ghost use Rattle.records.specs.Records.{recordIn};
+ghost use Rattle.replaying.specs.Replaying.{Ready, Replayed, Reached, entered, tried};
+ghost use Rattle.replay_continuous.specs.declared.Step.the-variants.{Stands};
+ghost use Rattle.replay_continuous.specs.Places.{
+  leftOf,
+  stateOf,
+  figuresIn,
+  placeOf,
+  placeFrom,
+  OnContinuous,
+  fitsRun,
+  flagOf,
+  enteredAs,
+  Within,
+  Steps,
+  NoRunOrBlock,
+  Tells,
+  ReadAt,
+};
 use model::Figures;
 use model::NO_LABEL;
 use model::Plan;
+use model::sizes;
 use plans::continuous;
 use plans::continuous::Continuous;
 use plans::credit::Credit;
@@ -20,159 +41,276 @@ use plans::stops;
 use records::Record;
 use replaying::Entered;
 use rules::plan;
+use rules::refusing;
 
-// What a replay knows after a record: whether it could stand, what is left to be screened, the tail, and how many are accepted.
+// What an entry of a continuous stream can change: what is left to be screened, the tail, and how many are accepted.
 struct Place {
-    stands: bool,
     left: u32,
-    tail: u32,
+    tail: u16,
     accepted: u64,
 }
 
-// The figures after more of the records of a continuous stream, and whether each of these could stand.
+// An entry stands, and leaves this place; or it could not stand.
+enum Step {
+    Stands(Place),
+    Fails,
+}
+
+// Whether a record stands, and the place after it, or the one before it where it does not.
+struct Outcome {
+    stands: bool,
+    place: Place,
+}
+
+// The figures after more of the records of a continuous stream, and whether each of these could stand: brought up to date entry after
+// entry.
 pub fn replay(area: &[u8], plan: Plan, figures: Figures, from: usize, to: usize) -> Entered
     requires { ⌜ Ready plan (now area) figures from to × (plan .kind ≡ 3) ⌝ }
     ensures { λ r. ⌜ Replayed plan (now (area .entry)) to r ⌝ }
 {
-    let state = figures.continuous;
-    let mut left = left_of(plan.a, state);
-    let mut tail = state.tail as u32;
-    let mut accepted = figures.accepted;
+    let mut place = place_from(plan.a, figures);
     let mut i = from;
     while i < to {
-        let place = enter(plan, left, tail, accepted, records::get_record(area, i));
-        if !place.stands {
+        let next = brought(
+            area,
+            plan,
+            place,
+            sizes::HEADER_LENGTH + sizes::RECORD_LENGTH * i,
+        );
+        if !next.stands {
             return Entered {
                 sound: false,
                 figures: plan::started(plan),
             };
         }
-        left = place.left;
-        tail = place.tail;
-        accepted = place.accepted;
+        place = next.place;
         i += 1;
     }
     Entered {
         sound: true,
-        figures: figures_at(plan.a, left, tail, accepted),
+        figures: figures_at(plan.a, place),
     }
 }
 
-// Enters a record. The phase is looked at first, so that a block's head is not compared with a run's.
-fn enter(plan: Plan, left: u32, tail: u32, accepted: u64, read: Record) -> Place
-    requires { ⌜ Known plan left tail accepted ⌝ }
-    ensures { λ r. ⌜ Reaches plan left tail accepted read r ⌝ }
+// A run more on a continuous stream's figures, as a call enters it: whether it could stand, and the figures after it.
+pub fn enter_run(plan: Plan, figures: Figures, right: u32, wrong: u32) -> Entered
+    requires { ⌜ Reached plan figures × (plan .kind ≡ 3) × (wrong ≤ 1) ⌝ }
+    ensures { λ r. ⌜ r ≡ tried plan figures (Run right wrong) ⌝ }
 {
-    if has_more(read) {
-        return fail();
+    entered_as(
+        plan.a,
+        figures,
+        step_run(plan, place_from(plan.a, figures), right, wrong == 1),
+    )
+}
+
+// The same of a block.
+pub fn enter_block(plan: Plan, figures: Figures, heard: u32, wrong: u32) -> Entered
+    requires { ⌜ Reached plan figures × (plan .kind ≡ 3) × (wrong ≤ 1) ⌝ }
+    ensures { λ r. ⌜ r ≡ tried plan figures (Block heard wrong) ⌝ }
+{
+    entered_as(
+        plan.a,
+        figures,
+        step_block(plan, place_from(plan.a, figures), heard, wrong == 1),
+    )
+}
+
+// The same of a stop.
+pub fn enter_stop(plan: Plan, figures: Figures, why: u32, days: u32) -> Entered
+    requires { ⌜ Reached plan figures × (plan .kind ≡ 3) ⌝ }
+    ensures { λ r. ⌜ r ≡ tried plan figures (Stop why days) ⌝ }
+{
+    entered_as(
+        plan.a,
+        figures,
+        step_stop(plan, place_from(plan.a, figures), why, days),
+    )
+}
+
+// A step in the figures that it is about.
+fn entered_as(clearance: u32, figures: Figures, step: Step) -> Entered
+    requires { ⌜ Within clearance step ⌝ }
+    ensures { λ r. ⌜ r ≡ enteredAs clearance figures step ⌝ }
+{
+    let Step::Stands(after) = step else {
+        return Entered {
+            sound: false,
+            figures,
+        };
+    };
+    Entered {
+        sound: true,
+        figures: figures_at(clearance, after),
+    }
+}
+
+// The place is lent to `bring` here alone, so that no other function has a reference to it.
+fn brought(area: &[u8], plan: Plan, place: Place, at: usize) -> Outcome
+    requires { ⌜ ReadAt plan (now area) place at ⌝ }
+    ensures { λ r. ⌜ Tells plan place (recordIn (part at recordLength (now (area .entry)))) r ⌝ }
+{
+    let mut here = place;
+    let stands = bring(&mut here, area, plan, at);
+    Outcome {
+        stands,
+        place: here,
+    }
+}
+
+// Brings the place up to date with the record at an offset; answers whether it could stand.
+fn bring(place: &mut Place, area: &[u8], plan: Plan, at: usize) -> bool
+    requires { ⌜ ReadAt plan (now area) (now place) at ⌝ }
+    ensures { λ r. ⌜ Tells plan (now (place .entry)) (recordIn (part at recordLength (now (area .entry)))) (record { stands = r; place = now (place .exit) }) ⌝ }
+{
+    let next = next(area, plan, *place, at);
+    *place = next.place;
+    next.stands
+}
+
+// The same by value.
+fn next(area: &[u8], plan: Plan, place: Place, at: usize) -> Outcome
+    requires { ⌜ ReadAt plan (now area) place at ⌝ }
+    ensures { λ r. ⌜ Tells plan place (recordIn (part at recordLength (now (area .entry)))) r ⌝ }
+{
+    let Step::Stands(after) = take(plan, place, records::get_record_at(area, at)) else {
+        return Outcome {
+            stands: false,
+            place,
+        };
+    };
+    Outcome {
+        stands: true,
+        place: after,
+    }
+}
+
+// What a record does to the place, and whether it could stand: the step of the entry that it holds. Speed: the phase is looked at first,
+// so that a block's head is not compared with a run's; and whether a wrong run or block fits before its head, so that the compiler keeps
+// this order, in which a right one costs one comparison of heads: a seventh of a long stream. One that does not fit is no stop either.
+fn take(plan: Plan, place: Place, read: Record) -> Step
+    requires { ⌜ OnContinuous plan place ⌝ }
+    ensures { λ r. ⌜ Steps plan place r (entered plan (figuresIn (plan .a) place) 0 read) ⌝ }
+{
+    if replaying::has_more(read) {
+        return Step::Fails;
     }
     let head = replaying::head_of(read);
-    if left == 0 {
-        return enter_sampling(plan, tail, accepted, head, read);
+    if place.left == 0 {
+        if head == replaying::BLOCK {
+            return step_block(plan, place, read.a, false);
+        }
+        if let Step::Stands(after) = step_block(plan, place, read.a, true) {
+            if head == replaying::BLOCK_WRONG {
+                return Step::Stands(after);
+            }
+        }
+        return take_stop(plan, place, head, read);
     }
     if head == replaying::RUN {
-        let right = read.a;
-        if plan::within(1, left, right) {
-            return stand(left - right, tail, accepted + right as u64);
-        }
-        return fail();
+        return step_run(plan, place, read.a, false);
     }
-    enter_screening(plan, left, tail, accepted, head, read)
-}
-
-// Enters a record in screening that is no run of right detections alone. Its number is looked at before its head, so that the
-// compiler keeps this order. A wrong run that does not fit is no stop either.
-fn enter_screening(
-    plan: Plan,
-    left: u32,
-    tail: u32,
-    accepted: u64,
-    head: u32,
-    read: Record,
-) -> Place
-    requires { ⌜ Known plan left tail accepted × HeadRead head read × (1 ≤ left) × (head ≡ 2 → ⊥) ⌝ }
-    ensures { λ r. ⌜ Reaches plan left tail accepted read r ⌝ }
-{
-    let right = read.a;
-    if right < left {
+    if let Step::Stands(after) = step_run(plan, place, read.a, true) {
         if head == replaying::RUN_WRONG {
-            return stand(plan.a, tail, accepted + right as u64);
+            return Step::Stands(after);
         }
     }
-    if replaying::is_stop(head, read) {
-        if head == replaying::CHANGE {
-            return stand(plan.a, tail, accepted);
-        }
-        return stand(left, tail, accepted);
-    }
-    fail()
+    take_stop(plan, place, head, read)
 }
 
-// Enters a record in sampling.
-fn enter_sampling(plan: Plan, tail: u32, accepted: u64, head: u32, read: Record) -> Place
-    requires { ⌜ Known plan 0 tail accepted × HeadRead head read ⌝ }
-    ensures { λ r. ⌜ Reaches plan 0 tail accepted read r ⌝ }
+// The same of a record that is no run's or block's that fits.
+fn take_stop(plan: Plan, place: Place, head: u32, read: Record) -> Step
+    requires { ⌜ NoRunOrBlock plan place head read ⌝ }
+    ensures { λ r. ⌜ Steps plan place r (entered plan (figuresIn (plan .a) place) 0 read) ⌝ }
 {
-    let heard = read.a;
-    if head == replaying::BLOCK {
-        if plan::within(1, plan.b, heard) {
-            return stand(0, plan.b - heard, accepted + plan.b as u64);
-        }
-        return fail();
+    if head == replaying::PAUSE {
+        return step_stop(plan, place, stops::PAUSE, read.a);
     }
-    if is_wrong_block(plan.b, head, heard) {
-        return stand(plan.a, 0, accepted + (heard - 1) as u64);
+    if head == replaying::CHANGE {
+        return step_stop(plan, place, stops::SET_UP_CHANGED, read.a);
     }
-    if replaying::is_stop(head, read) {
-        if head == replaying::CHANGE {
-            return stand(plan.a, 0, accepted);
-        }
-        if stops::SHORT_STOP < heard {
-            return stand(plan.a, 0, accepted);
-        }
-        return stand(0, tail, accepted);
-    }
-    fail()
+    Step::Fails
 }
 
-// Whether a record is a wrong block. Its number is looked at before its head: a right block then costs one comparison of heads.
-fn is_wrong_block(interval: u32, head: u32, heard: u32) -> bool
-    ensures { λ r. ⌜ r ≡ isWithin 1 interval heard && eqb head 259 ⌝ }
+// A run of right detections, then a wrong one if wrong.
+fn step_run(plan: Plan, place: Place, right: u32, wrong: bool) -> Step
+    requires { ⌜ OnContinuous plan place ⌝ }
+    ensures { λ r. ⌜ Steps plan place r (tried plan (figuresIn (plan .a) place) (Run right (flagOf wrong))) ⌝ }
 {
-    if plan::within(1, interval, heard) {
-        return head == replaying::BLOCK_WRONG;
+    if !fits_run(place.left, right, wrong) {
+        return Step::Fails;
     }
-    false
+    let state = state_of(plan.a, place.left, place.tail);
+    stand(
+        plan.a,
+        state.run(plan.a, right, wrong),
+        place.accepted + right as u64,
+    )
 }
 
-// Whether a record has a second, third or fourth number. The three are put together first, so that one comparison tells.
-fn has_more(read: Record) -> bool
-    ensures { λ r. ⌜ r ≡ not (oneNumber read) ⌝ }
+// What 14 and 15 leave of a run.
+fn fits_run(left: u32, right: u32, wrong: bool) -> bool
+    ensures { λ r. ⌜ r ≡ fitsRun left right wrong ⌝ }
 {
-    (read.b as u64 + read.c as u64 * 4294967296) | read.d as u64 != 0
+    if wrong {
+        return right < left;
+    }
+    plan::within(1, left, right)
 }
 
-// The place after a record that stands.
-fn stand(left: u32, tail: u32, accepted: u64) -> Place
-    ensures { λ r. ⌜ r ≡ stoodAt left tail accepted ⌝ }
+// A block of which one detection was heard.
+fn step_block(plan: Plan, place: Place, heard: u32, wrong: bool) -> Step
+    requires { ⌜ OnContinuous plan place ⌝ }
+    ensures { λ r. ⌜ Steps plan place r (tried plan (figuresIn (plan .a) place) (Block heard (flagOf wrong))) ⌝ }
+{
+    if place.left != 0 {
+        return Step::Fails;
+    }
+    if !plan::within(1, plan.b, heard) {
+        return Step::Fails;
+    }
+    let state = state_of(plan.a, place.left, place.tail);
+    let gives = state.block(plan.b, heard, wrong);
+    let after = gives.state;
+    stand(plan.a, after, place.accepted + gives.accepted as u64)
+}
+
+// A stop.
+fn step_stop(plan: Plan, place: Place, why: u32, days: u32) -> Step
+    requires { ⌜ OnContinuous plan place ⌝ }
+    ensures { λ r. ⌜ Steps plan place r (tried plan (figuresIn (plan .a) place) (Stop why days)) ⌝ }
+{
+    if !refusing::is_stop(why, days) {
+        return Step::Fails;
+    }
+    let state = state_of(plan.a, place.left, place.tail);
+    stand(plan.a, state.stop(why, days), place.accepted)
+}
+
+// The step of an entry that stands, and leaves this state.
+fn stand(clearance: u32, state: Continuous, accepted: u64) -> Step
+    requires { ⌜ state .count ≤ clearance ⌝ }
+    ensures { λ r. ⌜ r ≡ Stands (placeOf clearance state accepted) ⌝ }
+{
+    Step::Stands(place_of(clearance, state, accepted))
+}
+
+// The place that figures tell of.
+fn place_from(clearance: u32, figures: Figures) -> Place
+    requires { ⌜ figures .continuous .count ≤ clearance ⌝ }
+    ensures { λ r. ⌜ r ≡ placeFrom clearance figures ⌝ }
+{
+    place_of(clearance, figures.continuous, figures.accepted)
+}
+
+fn place_of(clearance: u32, state: Continuous, accepted: u64) -> Place
+    requires { ⌜ state .count ≤ clearance ⌝ }
+    ensures { λ r. ⌜ r ≡ placeOf clearance state accepted ⌝ }
 {
     Place {
-        stands: true,
-        left,
-        tail,
+        left: left_of(clearance, state),
+        tail: state.tail,
         accepted,
-    }
-}
-
-// A record that cannot stand: of the rest nothing is said.
-fn fail() -> Place
-    ensures { λ r. ⌜ r ≡ nowhere ⌝ }
-{
-    Place {
-        stands: false,
-        left: 0,
-        tail: 0,
-        accepted: 0,
     }
 }
 
@@ -188,27 +326,27 @@ fn left_of(clearance: u32, state: Continuous) -> u32
 }
 
 // The state of which so many are left to be screened.
-fn state_of(clearance: u32, left: u32, tail: u32) -> Continuous
-    requires { ⌜ (left ≤ clearance) × (tail ≤ 200) ⌝ }
+fn state_of(clearance: u32, left: u32, tail: u16) -> Continuous
+    requires { ⌜ left ≤ clearance ⌝ }
     ensures { λ r. ⌜ r ≡ stateOf clearance left tail ⌝ }
 {
     if left == 0 {
         return Continuous {
             count: 0,
             phase: continuous::SAMPLING,
-            tail: tail as u16,
+            tail,
         };
     }
     Continuous::screen(clearance - left)
 }
 
-// The figures of that state. Credit, level and label are foreign to a continuous stream, so they are written here: nothing that
-// stays the same has to be handed in and out.
-fn figures_at(clearance: u32, left: u32, tail: u32, accepted: u64) -> Figures
-    requires { ⌜ (left ≤ clearance) × (tail ≤ 200) ⌝ }
-    ensures { λ r. ⌜ r ≡ figuresAt clearance left tail accepted ⌝ }
+// The figures of a place. Credit, level and label are foreign to a continuous stream, so they are written here: nothing that stays the
+// same has to be handed in and out.
+fn figures_at(clearance: u32, place: Place) -> Figures
+    requires { ⌜ place .left ≤ clearance ⌝ }
+    ensures { λ r. ⌜ r ≡ figuresIn clearance place ⌝ }
 {
-    let continuous = state_of(clearance, left, tail);
+    let continuous = state_of(clearance, place.left, place.tail);
     Figures {
         credit: Credit(0),
         level: LevelState {
@@ -218,7 +356,7 @@ fn figures_at(clearance: u32, left: u32, tail: u32, accepted: u64) -> Figures
             window: 0,
         },
         continuous,
-        accepted,
+        accepted: place.accepted,
         newest: NO_LABEL,
     }
 }

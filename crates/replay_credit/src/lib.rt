@@ -1,23 +1,15 @@
-// The replay of a credit stream's records: paper 01, "Credit lots". What a record can change is carried in three numbers, so that
-// the loop keeps them in registers; `specs/Carrying.antt` has the figures that they stand for.
+// The replay of a credit stream's records, and its step: paper 01, "Credit lots". The step is the one home of what a credit stream's
+// entries do to its figures and of whether they may stand: the replay takes it for each record, a call for the entry that it is about to
+// write. What an entry can change is carried in three numbers, so that the loop keeps them in registers; `specs/Carrying.antt` has the
+// figures that they stand for.
 ghost use mathlib.Core.Path.{_≡_};
-ghost use mathlib.Core.Bool.{false, true};
-ghost use Prim.Native.Nat.{_+_, _≤_};
-ghost use lib.ListN.{length};
+ghost use mathlib.Core.Bool.{false};
 ghost use Rattle.little.specs.Little.{part};
 ghost use Rattle.model.specs.Sizes.{recordLength};
+ghost use Rattle.model.specs.declared.Entry.the-variants.{Stop};
 ghost use Rattle.records.specs.Records.{recordIn};
-ghost use Rattle.replaying.specs.Replaying.{Ready, Replayed, noneWrong};
-ghost use Rattle.replaying.specs.LotStreams.{mayFollow};
-ghost use Rattle.replay_credit.specs.Carrying.{
-  figuresIn,
-  carriedFrom,
-  lotStep,
-  stopStep,
-  stepOf,
-  Bounded,
-};
-ghost use Rattle.replay_credit.specs.Passing.{isGoodLot, passedOver, SumFits, SomeReady, PassedGood, StopsAtOther};
+ghost use Rattle.replaying.specs.Replaying.{Ready, Replayed, Reached, entered, tried, askedLot, headOf, faultless};
+ghost use Rattle.replay_credit.specs.Carrying.{figuresIn, carriedFrom, OnCredit, enteredAs, toldAs, ReadAt};
 use model::Figures;
 use model::Plan;
 use model::sizes;
@@ -26,104 +18,281 @@ use plans::continuous::Continuous;
 use plans::credit::Credit;
 use plans::level::LevelState;
 use plans::limits;
+use plans::stops;
 use plans::verdict;
 use records::Record;
 use replaying::Entered;
-use rules::plan;
 use rules::refusing;
 
-// What a record of a credit stream can change.
+// What an entry of a credit stream can change.
 struct Carried {
     credit: u32,
     accepted: u64,
     newest: u64,
 }
 
-// What is carried past some good lots, and the offset of the record behind them.
-struct Passed {
-    carried: Carried,
-    next: usize,
-}
-
-// A record stands, and leaves these numbers; or it could not stand.
+// An entry stands, and leaves these numbers; or it could not stand.
 enum Step {
     Stands(Carried),
     Fails,
 }
 
-// The figures after more of the records of a credit stream, and whether each of these could stand. It goes by offset: one number is
-// counted and addressed with. Good lots are passed in a loop of their own, which keeps and tests less; the others are entered.
+// Whether a record stands, and the numbers after it, or those before it where it does not.
+struct Outcome {
+    stands: bool,
+    carried: Carried,
+}
+
+// The figures after more of the records of a credit stream, and whether each of these could stand: brought up to date entry after entry.
 pub fn replay(area: &[u8], plan: Plan, figures: Figures, from: usize, to: usize) -> Entered
     requires { ⌜ Ready plan (now area) figures from to × (plan .kind ≡ 1) ⌝ }
     ensures { λ r. ⌜ Replayed plan (now (area .entry)) to r ⌝ }
 {
-    let end = sizes::HEADER_LENGTH + sizes::RECORD_LENGTH * to;
-    let mut passed = pass_good_lots(
-        area,
-        carried_from(figures),
-        sizes::HEADER_LENGTH + sizes::RECORD_LENGTH * from,
-        end,
-    );
-    while passed.next < end {
-        let Step::Stands(next) = enter(area, plan, passed.carried, passed.next) else {
+    let mut carried = carried_from(figures);
+    let mut i = from;
+    while i < to {
+        let Step::Stands(next) = enter_at(
+            area,
+            plan,
+            carried,
+            sizes::HEADER_LENGTH + sizes::RECORD_LENGTH * i,
+        ) else {
             return Entered {
                 sound: false,
-                figures: figures_of(passed.carried),
+                figures: figures_of(carried),
             };
         };
-        passed = pass_good_lots(area, next, passed.next + sizes::RECORD_LENGTH, end);
+        carried = next;
+        i += 1;
     }
     Entered {
         sound: true,
-        figures: figures_of(passed.carried),
+        figures: figures_of(carried),
     }
 }
 
-// Passes the good lots from an offset on, up to the first record that is none, or to the end. A good lot adds its size to the credit and
-// to what is accepted alike, whatever the plan: so one sum is kept for both.
-fn pass_good_lots(area: &[u8], carried: Carried, from: usize, to: usize) -> Passed
-    requires { ⌜ SomeReady (now area) carried from to ⌝ }
-    ensures { λ r. ⌜ PassedGood (now (area .entry)) carried from to r × StopsAtOther (now (area .entry)) to r ⌝ }
+// A lot more on a credit stream's figures, as a call enters it: whether it could stand, and the figures after it.
+pub fn enter_lot(
+    plan: Plan,
+    figures: Figures,
+    label: u32,
+    size: u32,
+    wrong: u32,
+    wrong_in_all: u32,
+) -> Entered
+    requires { ⌜ Reached plan figures × (plan .kind ≡ 1) ⌝ }
+    ensures { λ r. ⌜ r ≡ tried plan figures (askedLot plan figures label size wrong «wrong_in_all») ⌝ }
 {
-    let mut newest = carried.newest;
-    let mut sum: u64 = 0;
-    let mut at = from;
-    while at < to {
-        if !is_good_lot(area, newest, at) {
-            return passed_over(carried, sum, newest, at);
-        }
-        let read = records::get_record_at(area, at);
-        sum += read.b as u64;
-        newest = read.a as u64;
-        at += sizes::RECORD_LENGTH;
-    }
-    passed_over(carried, sum, newest, at)
+    entered_as(
+        figures,
+        step_lot(
+            plan,
+            carried_from(figures),
+            label,
+            size,
+            wrong,
+            wrong_in_all,
+        ),
+    )
 }
 
-// Good lots were passed: the sum of their sizes, the newest one's label, and where the next record stands.
-fn passed_over(carried: Carried, sum: u64, newest: u64, next: usize) -> Passed
-    requires { ⌜ SumFits carried sum ⌝ }
-    ensures { λ r. ⌜ r ≡ passedOver carried sum newest next ⌝ }
+// The same of a stop.
+pub fn enter_stop(plan: Plan, figures: Figures, why: u32, days: u32) -> Entered
+    requires { ⌜ Reached plan figures × (plan .kind ≡ 1) ⌝ }
+    ensures { λ r. ⌜ r ≡ tried plan figures (Stop why days) ⌝ }
 {
-    Passed {
-        carried: Carried {
-            credit: carried.credit + sum as u32,
-            accepted: carried.accepted + sum,
-            newest,
-        },
-        next,
+    entered_as(figures, step_stop(plan, carried_from(figures), why, days))
+}
+
+// A step in the figures that it is about.
+fn entered_as(figures: Figures, step: Step) -> Entered
+    ensures { λ r. ⌜ r ≡ enteredAs figures step ⌝ }
+{
+    let Step::Stands(after) = step else {
+        return Entered {
+            sound: false,
+            figures,
+        };
+    };
+    Entered {
+        sound: true,
+        figures: figures_of(after),
     }
 }
 
-// Is the record at an offset a good lot?
-fn is_good_lot(area: &[u8], newest: u64, at: usize) -> bool
-    requires { ⌜ at + recordLength ≤ length (now area) ⌝ }
-    ensures { λ r. ⌜ r ≡ isGoodLot newest (recordIn (part at recordLength (now (area .entry)))) ⌝ }
+// Enters the record at an offset. Speed: told as a step, the loop is compiled with one jump a record less, a sixth of a long stream.
+fn enter_at(area: &[u8], plan: Plan, carried: Carried, at: usize) -> Step
+    requires { ⌜ ReadAt plan (now area) carried at ⌝ }
+    ensures { λ r. ⌜ enteredAs (figuresIn carried) r ≡ entered plan (figuresIn carried) 0 (recordIn (part at recordLength (now (area .entry)))) ⌝ }
+{
+    let next = brought(area, plan, carried, at);
+    if next.stands {
+        let after = next.carried;
+        return Step::Stands(after);
+    }
+    Step::Fails
+}
+
+// The numbers are lent to `bring` here alone, so that no other function has a reference to them.
+fn brought(area: &[u8], plan: Plan, carried: Carried, at: usize) -> Outcome
+    requires { ⌜ ReadAt plan (now area) carried at ⌝ }
+    ensures { λ r. ⌜ toldAs r ≡ entered plan (figuresIn carried) 0 (recordIn (part at recordLength (now (area .entry)))) ⌝ }
+{
+    let mut here = carried;
+    let stands = bring(&mut here, area, plan, at);
+    Outcome {
+        stands,
+        carried: here,
+    }
+}
+
+// Brings the numbers up to date with the record at an offset; answers whether it could stand.
+fn bring(carried: &mut Carried, area: &[u8], plan: Plan, at: usize) -> bool
+    requires { ⌜ ReadAt plan (now area) (now carried) at ⌝ }
+    ensures { λ r. ⌜ toldAs (record { stands = r; carried = now (carried .exit) }) ≡ entered plan (figuresIn (now (carried .entry))) 0 (recordIn (part at recordLength (now (area .entry)))) ⌝ }
+{
+    let next = next(area, plan, *carried, at);
+    *carried = next.carried;
+    next.stands
+}
+
+// The same by value.
+fn next(area: &[u8], plan: Plan, carried: Carried, at: usize) -> Outcome
+    requires { ⌜ ReadAt plan (now area) carried at ⌝ }
+    ensures { λ r. ⌜ toldAs r ≡ entered plan (figuresIn carried) 0 (recordIn (part at recordLength (now (area .entry)))) ⌝ }
+{
+    let Step::Stands(after) = take(area, plan, carried, at) else {
+        return Outcome {
+            stands: false,
+            carried,
+        };
+    };
+    Outcome {
+        stands: true,
+        carried: after,
+    }
+}
+
+// What the record at an offset does to the numbers, and whether it could stand: the step of the entry that it holds. Speed: a lot without
+// fault is known by one test of its bytes, and each branch reads the record for itself, so that it loads the numbers that it looks at.
+fn take(area: &[u8], plan: Plan, carried: Carried, at: usize) -> Step
+    requires { ⌜ ReadAt plan (now area) carried at ⌝ }
+    ensures { λ r. ⌜ enteredAs (figuresIn carried) r ≡ entered plan (figuresIn carried) 0 (recordIn (part at recordLength (now (area .entry)))) ⌝ }
 {
     if !replaying::is_faultless(area, at) {
-        return false;
+        return take_other(area, plan, carried, at);
     }
-    may_follow(newest, records::get_record_at(area, at))
+    let read = records::get_record_at(area, at);
+    step_good_lot(plan, carried, read.a, read.b)
+}
+
+// The same of a record that is no lot without fault: a stop, or a lot with something wrong. Speed: a function of its own, since within
+// `take` the loop over good lots is laid out with a jump more, a sixth of a long stream.
+fn take_other(area: &[u8], plan: Plan, carried: Carried, at: usize) -> Step
+    requires { ⌜ ReadAt plan (now area) carried at × (faultless (recordIn (part at recordLength (now area))) ≡ false) ⌝ }
+    ensures { λ r. ⌜ enteredAs (figuresIn carried) r ≡ entered plan (figuresIn carried) 0 (recordIn (part at recordLength (now (area .entry)))) ⌝ }
+{
+    if replaying::head_at(area, at) != replaying::LOT {
+        return take_stop(plan, carried, records::get_record_at(area, at));
+    }
+    let read = records::get_record_at(area, at);
+    step_wrong_lot(plan, carried, read.a, read.b, read.c, read.d)
+}
+
+// The same of a record that is no lot's.
+fn take_stop(plan: Plan, carried: Carried, read: Record) -> Step
+    requires { ⌜ OnCredit plan carried × (headOf read ≡ 1 → ⊥) ⌝ }
+    ensures { λ r. ⌜ enteredAs (figuresIn carried) r ≡ entered plan (figuresIn carried) 0 read ⌝ }
+{
+    if replaying::has_more(read) {
+        return Step::Fails;
+    }
+    let head = replaying::head_of(read);
+    if head == replaying::PAUSE {
+        return step_stop(plan, carried, stops::PAUSE, read.a);
+    }
+    if head == replaying::CHANGE {
+        return step_stop(plan, carried, stops::SET_UP_CHANGED, read.a);
+    }
+    Step::Fails
+}
+
+// A lot.
+fn step_lot(
+    plan: Plan,
+    carried: Carried,
+    label: u32,
+    size: u32,
+    wrong: u32,
+    wrong_in_all: u32,
+) -> Step
+    requires { ⌜ OnCredit plan carried ⌝ }
+    ensures { λ r. ⌜ enteredAs (figuresIn carried) r ≡ tried plan (figuresIn carried) (askedLot plan (figuresIn carried) label size wrong «wrong_in_all») ⌝ }
+{
+    if wrong == 0 {
+        if wrong_in_all == 0 {
+            return step_good_lot(plan, carried, label, size);
+        }
+    }
+    step_wrong_lot(plan, carried, label, size, wrong, wrong_in_all)
+}
+
+// A lot with nothing wrong is accepted whole, whatever the sample.
+fn step_good_lot(plan: Plan, carried: Carried, label: u32, size: u32) -> Step
+    requires { ⌜ OnCredit plan carried ⌝ }
+    ensures { λ r. ⌜ enteredAs (figuresIn carried) r ≡ tried plan (figuresIn carried) (askedLot plan (figuresIn carried) label size 0 0) ⌝ }
+{
+    if !refusing::may_follow(limits::LEAST_LOT, carried.newest, label, size) {
+        return Step::Fails;
+    }
+    Step::Stands(Carried {
+        credit: Credit(carried.credit).after(LotSize(size), 0).0,
+        accepted: carried.accepted + size as u64,
+        newest: label as u64,
+    })
+}
+
+// A lot with something wrong: only of such a one the sample is worked out, a division.
+fn step_wrong_lot(
+    plan: Plan,
+    carried: Carried,
+    label: u32,
+    size: u32,
+    wrong: u32,
+    wrong_in_all: u32,
+) -> Step
+    requires { ⌜ OnCredit plan carried × ((wrong ≡ 0) × («wrong_in_all» ≡ 0) → ⊥) ⌝ }
+    ensures { λ r. ⌜ enteredAs (figuresIn carried) r ≡ tried plan (figuresIn carried) (askedLot plan (figuresIn carried) label size wrong «wrong_in_all») ⌝ }
+{
+    if !refusing::may_follow(limits::LEAST_LOT, carried.newest, label, size) {
+        return Step::Fails;
+    }
+    if wrong == 0 {
+        return Step::Fails;
+    }
+    let credit = Credit(carried.credit);
+    let sample = credit.sample(LotSize(size), plan.a).0;
+    let verdict = credit.verdict(plan.option == 1, wrong);
+    if !refusing::do_counts_agree(verdict, size, sample, wrong, wrong_in_all) {
+        return Step::Fails;
+    }
+    Step::Stands(Carried {
+        credit: credit.after(LotSize(size), wrong).0,
+        accepted: carried.accepted
+            + verdict::accepted_of(verdict, LotSize(size), wrong_in_all) as u64,
+        newest: label as u64,
+    })
+}
+
+// Paper 01, "Calls", Stop: on credit streams it is entered without effect.
+fn step_stop(plan: Plan, carried: Carried, why: u32, days: u32) -> Step
+    requires { ⌜ OnCredit plan carried ⌝ }
+    ensures { λ r. ⌜ enteredAs (figuresIn carried) r ≡ tried plan (figuresIn carried) (Stop why days) ⌝ }
+{
+    if refusing::is_stop(why, days) {
+        return Step::Stands(carried);
+    }
+    Step::Fails
 }
 
 fn carried_from(figures: Figures) -> Carried
@@ -153,66 +322,4 @@ fn figures_of(carried: Carried) -> Figures
         accepted: carried.accepted,
         newest: carried.newest,
     }
-}
-
-// Enters the record at an offset, which is no good lot: a lot that may follow has something wrong. Each branch reads the record for
-// itself: so compiled, it loads the numbers that it looks at, and no more.
-fn enter(area: &[u8], plan: Plan, carried: Carried, at: usize) -> Step
-    requires { ⌜ (at + recordLength ≤ length (now area)) × Bounded plan carried × (isGoodLot (carried .newest) (recordIn (part at recordLength (now area))) ≡ false) ⌝ }
-    ensures { λ r. ⌜ r ≡ stepOf plan carried (recordIn (part at recordLength (now (area .entry)))) ⌝ }
-{
-    if replaying::head_at(area, at) != replaying::LOT {
-        return enter_stop(area, carried, at);
-    }
-    let read = records::get_record_at(area, at);
-    if !may_follow(carried.newest, read) {
-        return Step::Fails;
-    }
-    enter_wrong_lot(plan, carried, read)
-}
-
-// Paper 01, "Calls", Stop: on credit streams it is entered without effect.
-fn enter_stop(area: &[u8], carried: Carried, at: usize) -> Step
-    requires { ⌜ at + recordLength ≤ length (now area) ⌝ }
-    ensures { λ r. ⌜ r ≡ stopStep carried (recordIn (part at recordLength (now (area .entry)))) ⌝ }
-{
-    let read = records::get_record_at(area, at);
-    if replaying::is_stop(replaying::head_of(read), read) {
-        return Step::Stands(carried);
-    }
-    Step::Fails
-}
-
-// What refusals 10 and 11 leave: a label other than the newest lot's, and a size in range.
-fn may_follow(newest: u64, read: Record) -> bool
-    ensures { λ r. ⌜ r ≡ mayFollow 1 newest read ⌝ }
-{
-    if read.a as u64 == newest {
-        return false;
-    }
-    plan::within(1, limits::LARGEST_LOT, read.b)
-}
-
-// Only a lot with something wrong has its sample worked out: what refusal 13 leaves of it, and what it then changes.
-fn enter_wrong_lot(plan: Plan, carried: Carried, read: Record) -> Step
-    requires { ⌜ Bounded plan carried × (mayFollow 1 (carried .newest) read ≡ true) × (noneWrong read ≡ false) ⌝ }
-    ensures { λ r. ⌜ r ≡ lotStep plan carried read ⌝ }
-{
-    if read.c == 0 {
-        return Step::Fails;
-    }
-    let credit = Credit(carried.credit);
-    let sample = credit.sample(LotSize(read.b), plan.a).0;
-    if sample < read.c {
-        return Step::Fails;
-    }
-    let verdict = credit.verdict(plan.option == 1, read.c);
-    if !refusing::is_by_verdict(verdict, read.b, sample, read.c, read.d) {
-        return Step::Fails;
-    }
-    Step::Stands(Carried {
-        credit: 0,
-        accepted: carried.accepted + verdict::accepted_of(verdict, LotSize(read.b), read.d) as u64,
-        newest: read.a as u64,
-    })
 }

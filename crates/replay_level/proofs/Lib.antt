@@ -1,5 +1,4 @@
 -- Laws of the replay of a level stream in six numbers.
+pub mod Carries
 pub mod Samples
-pub mod Lots
 pub mod Steps
-pub mod Turning

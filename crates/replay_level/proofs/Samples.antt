@@ -1,49 +1,53 @@
 -- How small and how large the sample of a level lot can be: Table 2's numbers grow down a column and to the left, and no sample is larger
 -- than its lot. Assumes nothing.
-use Prim.Native.Nat.{ℕ, _-_, _≤_, _<_}
-use mathlib.Core.Bool.{Bool}
+use Prim.Native.Nat.{ℕ, _+_, _-_, _≤_, _<_}
+use mathlib.Core.Path.{_≡_, sym, _∙_}
+use mathlib.Core.Bool.{Bool, true, false}
 use native.Mathlib.Omega.{arith}
 use lib.Dec.{eqb, leb, leb→le}
+use borrow.Author.Tests.{eq-eqb, ne-eqb, le-leb, lt-leb}
 use Rattle.plans.specs.Severities.{reduced, tightened}
 use Rattle.plans.specs.Tables.{A, table2, codeLetter, columnAt, tabled, levelSample}
 use Rattle.plans.proofs.Booleans.{either}
 use Rattle.plans.proofs.Below.{allBelow, each-below}
 use Rattle.plans.proofs.Rows.{code-letter-below}
+use Rattle.replay_level.specs.Carrying.{fitsSample}
 
-column-below : (vl severity : ℕ) → 1 ≤ vl → columnAt vl severity < 9
-unfolding columnAt
-column-below vl severity h =
-    either (λ (n : ℕ). n < 9) (eqb severity tightened) (omega arith)
-    (either (λ (n : ℕ). n < 9) (eqb severity reduced) (omega arith) (omega arith))
-
--- the first row has the least of a column
-first-least : (letter column : ℕ) → letter < 5 → column < 9 → tabled A column ≤ tabled letter column
+-- no number is less than the first row's in the column of reduced: from the columns of tightened, normal and reduced, by computation
+least : (vl letter k : ℕ) → vl < 8 → letter < 5 → k < 3 → tabled A (9 - vl) ≤ tabled letter (7 + k - vl)
 unfolding tabled table2 allBelow
-first-least letter column l c =
-    leb→le (tabled A column) (tabled letter column)
-    (each-below (λ (k : ℕ). leb (tabled A k) (tabled letter k)) 9 column (each-below row 5 letter tt l) c)
+least vl letter k v l h = leb→le _ _ (each-below (at vl letter) 3 k (each-below (row vl) 5 letter (each-below (λ (v : ℕ). allBelow (row v) 5) 8 vl tt v) l) h)
   where
-    row : ℕ → Bool
-    row l = allBelow (λ (k : ℕ). leb (tabled A k) (tabled l k)) 9
+    at : ℕ → ℕ → ℕ → Bool
+    at v l k = leb (tabled A (9 - v)) (tabled l (7 + k - v))
 
--- and to the right of every severity's column is that of reduced
-right-least : (vl severity : ℕ) → vl < 8 → tabled A (columnAt vl reduced) ≤ tabled A (columnAt vl severity)
-unfolding columnAt tabled table2 allBelow
-right-least vl severity h =
-    either (λ (n : ℕ). tabled A (9 - vl) ≤ tabled A n) (eqb severity tightened)
-    (leb→le _ _ (each-below (λ (v : ℕ). leb (tabled A (9 - v)) (tabled A (7 - v))) 8 vl tt h))
-    (either (λ (n : ℕ). tabled A (9 - vl) ≤ tabled A n) (eqb severity reduced)
-    (omega arith)
-    (leb→le _ _ (each-below (λ (v : ℕ). leb (tabled A (9 - v)) (tabled A (8 - v))) 8 vl tt h)))
+    row : ℕ → ℕ → Bool
+    row v l = allBelow (at v l) 3
 
-module _ (vl severity N : ℕ) where
-  pub sample-least : 1 ≤ vl → vl ≤ 7 → (n : ℕ) → n ≤ N → n ≤ tabled A (columnAt vl reduced) → n ≤ levelSample vl severity N
-  unfolding levelSample
-  sample-least h g n size least =
-      let down = first-least (codeLetter vl N) (columnAt vl severity) (code-letter-below vl N) (column-below vl severity h) in
-      let right = right-least vl severity (omega arith) in
-      omega arith
+column-least : (vl severity letter : ℕ) → vl < 8 → letter < 5 → tabled A (columnAt vl reduced) ≤ tabled letter (columnAt vl severity)
+unfolding columnAt
+column-least vl severity letter v l =
+    either (λ (n : ℕ). tabled A (9 - vl) ≤ tabled letter n) (eqb severity tightened) (least vl letter 0 v l (omega arith))
+    (either (λ (n : ℕ). tabled A (9 - vl) ≤ tabled letter n) (eqb severity reduced) (least vl letter 2 v l (omega arith))
+    (least vl letter 1 v l (omega arith)))
 
-  pub sample-most : levelSample vl severity N ≤ N
-  unfolding levelSample
-  sample-most = omega arith
+-- whether a sample holds what is wrong
+module _ (vl severity N d D : ℕ) where
+  pub counts-differ : (D ≡ d → ⊥) → false ≡ fitsSample vl severity N d D
+  unfolding fitsSample
+  counts-differ e = rw (ne-eqb D d e)
+
+  module _ (same : D ≡ d) where
+    pub by-sample : leb d (levelSample vl severity N) ≡ fitsSample vl severity N d D
+    unfolding fitsSample
+    by-sample = rw (eq-eqb D d same)
+
+    pub too-many : N < d → false ≡ fitsSample vl severity N d D
+    unfolding levelSample
+    too-many many = sym (lt-leb d (levelSample vl severity N) (omega arith)) ∙ by-sample
+
+    pub within-least : vl ≤ 7 → d ≤ N → d ≤ tabled A (columnAt vl reduced) → true ≡ fitsSample vl severity N d D
+    unfolding levelSample
+    within-least h size few =
+        let most = column-least vl severity (codeLetter vl N) (omega arith) (code-letter-below vl N) in
+        sym (le-leb d (levelSample vl severity N) (omega arith)) ∙ by-sample

@@ -1,19 +1,20 @@
--- The figures of a level stream in six numbers, and what a record does to them: paper 01, "Level lots". Assumes nothing.
+-- The figures of a level stream in six numbers: paper 01, "Level lots". Assumes nothing.
 use Prim.Native.Nat.{ℕ, _+_, _≤_}
-use mathlib.Core.Bool.{Bool, cond, _&&_}
-use lib.Dec.{eqb, ltb, leb}
-use Rattle.plans.specs.Severities.{discontinued}
-use Rattle.plans.specs.Limits.{verificationLevels}
-use Rattle.plans.specs.Verdicts.{levelVerdict, acceptedOf}
+use mathlib.Core.Path.{_≡_}
+use mathlib.Core.Bool.{Bool, false, _&&_}
+use mathlib.Core.List.{List}
+use lib.Dec.{eqb, leb}
+use lib.ListN.{length}
 use Rattle.plans.specs.Tables.{levelSample}
-use Rattle.plans.specs.Levels.{judgedLot, metStop}
 use Rattle.model.specs.declared.Plan.{Plan}
 use Rattle.model.specs.declared.Figures.{Figures}
-use Rattle.model.specs.Stations.{hasOption}
-use Rattle.records.specs.declared.Record.{Record}
-use Rattle.replaying.specs.Replaying.{headOf, isStop}
-use Rattle.replaying.specs.LotStreams.{lotFigures, mayFollow}
+use Rattle.model.specs.Sizes.{recordLength}
+use Rattle.model.specs.Calls.{isDiscontinued}
+use Rattle.replaying.specs.declared.Entered.{Entered}
+use Rattle.replaying.specs.Replaying.{Reached, soundAt, unsoundAt}
+use Rattle.replaying.specs.LotStreams.{lotFigures}
 use Rattle.replay_level.specs.declared.Carried.{Carried}
+use Rattle.replay_level.specs.declared.Outcome.{Outcome}
 use Rattle.replay_level.specs.declared.Step.{Step}
 use Rattle.replay_level.specs.declared.Step.the-variants.{Stands, Fails}
 
@@ -22,43 +23,32 @@ unfoldable pub figuresIn : Carried → Figures
 figuresIn s = lotFigures 0 (s .state) (s .accepted) (s .newest)
 
 -- and back
-unfoldable pub carriedFrom : Figures → Carried
+abbrev pub carriedFrom : Figures → Carried
 carriedFrom f = record { state = f .level; accepted = f .accepted; newest = f .newest }
 
--- what the sums and the sample ask for: the numbers of at most 127 records, and a stated level
-pub record Bounded (p : Plan) (s : Carried) : Type 0 where
-  pub rows : s .state .row ≤ 127
-  pub judgedLots : s .state .judged ≤ 127
-  pub acceptedIn : s .accepted ≤ 127000000
-  pub least : 1 ≤ p .a
-  pub most : p .a ≤ verificationLevels
+-- numbers of a level stream that calls could have left, with a place free; and of one that goes on
+pub record OnLevel (p : Plan) (s : Carried) : Type 0 where
+  pub kind : p .kind ≡ 2
+  pub reached : Reached p (figuresIn s)
 
--- a lot's record: label a, size b, wrong in the sample c, wrong in all that was heard d
+pub record Running (p : Plan) (s : Carried) : Type 0 where
+  pub on : OnLevel p s
+  pub goesOn : isDiscontinued (figuresIn s) ≡ false
 
--- what refusal 13 leaves, of the sample that was asked
-unfoldable pub fitsSample : ℕ → ℕ → Record → Bool
-fitsSample vl severity r = eqb (r .d) (r .c) && leb (r .c) (levelSample vl severity (r .b))
+-- what refusal 13 leaves of d and D, of the sample that was asked
+unfoldable pub fitsSample : ℕ → ℕ → ℕ → ℕ → ℕ → Bool
+fitsSample vl severity N d D = eqb D d && leb d (levelSample vl severity N)
 
-unfoldable pub afterLot : Plan → Carried → Record → Carried
-afterLot p s r =
-    record {
-      state = judgedLot (hasOption p) (ltb 0 (r .c)) (s .state);
-      accepted = s .accepted + acceptedOf (levelVerdict (r .c)) (r .b) (r .d);
-      newest = r .a;
-    }
+-- a step in the figures that it is about
+unfoldable pub enteredAs : Figures → Step → Entered
+enteredAs f (Stands s) = soundAt (figuresIn s)
+enteredAs f Fails = unsoundAt f
 
-unfoldable pub lotStep : Plan → Carried → Record → Step
-lotStep p s r = cond (mayFollow 2 (s .newest) r && fitsSample (p .a) (s .state .level) r) (Stands (afterLot p s r)) Fails
+-- an outcome in its figures
+unfoldable pub toldAs : Outcome → Entered
+toldAs o = record { sound = o .stands; figures = figuresIn (o .carried) }
 
--- a stop's record: days a
-unfoldable pub pastStop : Carried → Record → Carried
-pastStop s r = record { state = metStop (r .flag) (r .a) (s .state); accepted = s .accepted; newest = s .newest }
-
-unfoldable pub stopStep : Carried → Record → Step
-stopStep s r = cond (isStop r) (Stands (pastStop s r)) Fails
-
--- nothing is accepted on a discontinued stream; elsewhere a lot's record, or else a stop's
-unfoldable pub stepOf : Plan → Carried → Record → Step
-stepOf p s r =
-    cond (eqb (s .state .level) discontinued) Fails
-    (cond (eqb (headOf r) 1) (lotStep p s r) (stopStep s r))
+-- a record whole in the area, and numbers that leave room for it
+pub record ReadAt (p : Plan) (area : List ℕ) (s : Carried) (at : ℕ) : Type 0 where
+  pub inArea : at + recordLength ≤ length area
+  pub on : OnLevel p s

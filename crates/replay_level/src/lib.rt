@@ -1,23 +1,17 @@
-// The replay of a level stream's records: paper 01, "Level lots". What a record can change is carried in six numbers, so that the
-// loop keeps them in registers; `specs/Carrying.antt` has the figures that they stand for.
+// The replay of a level stream's records, and its step: paper 01, "Level lots". The step is the one home of what a level stream's
+// entries do to its figures and of whether they may stand: the replay takes it for each record, a call for the entry that it is about to
+// write. What an entry can change is carried in six numbers, so that the loop keeps them in registers; `specs/Carrying.antt` has the
+// figures that they stand for.
 ghost use mathlib.Core.Path.{_≡_};
-ghost use mathlib.Core.Bool.{false, true};
-ghost use Prim.Native.Nat.{_≤_, _<_};
-ghost use lib.ListN.{length};
-ghost use Rattle.plans.specs.Severities.{discontinued};
-ghost use Rattle.model.specs.Sizes.{areaLength, mostRecords};
-ghost use Rattle.records.specs.Records.{recordIn, recordAt};
-ghost use Rattle.replaying.specs.Replaying.{Ready, Replayed, noneWrong, faultless};
-ghost use Rattle.replaying.specs.LotStreams.{mayFollow};
-ghost use Rattle.replay_level.specs.Carrying.{
-  figuresIn,
-  carriedFrom,
-  fitsSample,
-  stopStep,
-  lotStep,
-  stepOf,
-  Bounded,
-};
+ghost use mathlib.Core.Bool.{false};
+ghost use Prim.Native.Nat.{_≤_};
+ghost use Rattle.little.specs.Little.{part};
+ghost use Rattle.model.specs.Sizes.{recordLength};
+ghost use Rattle.model.specs.Calls.{isDiscontinued};
+ghost use Rattle.model.specs.declared.Entry.the-variants.{Stop};
+ghost use Rattle.records.specs.Records.{recordIn};
+ghost use Rattle.replaying.specs.Replaying.{Ready, Replayed, Reached, entered, tried, askedLot, headOf, faultless};
+ghost use Rattle.replay_level.specs.Carrying.{figuresIn, carriedFrom, Running, fitsSample, enteredAs, toldAs, ReadAt};
 use model::Figures;
 use model::Plan;
 use model::sizes;
@@ -27,25 +21,32 @@ use plans::credit::Credit;
 use plans::level;
 use plans::level::LevelState;
 use plans::limits;
+use plans::stops;
 use plans::tables;
 use records::Record;
 use replaying::Entered;
-use rules::plan;
+use rules::refusing;
 
-// What a record of a level stream can change.
+// What an entry of a level stream can change.
 struct Carried {
     state: LevelState,
     accepted: u64,
     newest: u64,
 }
 
-// A record stands, and leaves these numbers; or it could not stand.
+// An entry stands, and leaves these numbers; or it could not stand.
 enum Step {
     Stands(Carried),
     Fails,
 }
 
-// The figures after more of the records of a level stream, and whether each of these could stand.
+// Whether a record stands, and the numbers after it, or those before it where it does not.
+struct Outcome {
+    stands: bool,
+    carried: Carried,
+}
+
+// The figures after more of the records of a level stream, and whether each of these could stand: brought up to date entry after entry.
 pub fn replay(area: &[u8], plan: Plan, figures: Figures, from: usize, to: usize) -> Entered
     requires { ⌜ Ready plan (now area) figures from to × (plan .kind ≡ 2) ⌝ }
     ensures { λ r. ⌜ Replayed plan (now (area .entry)) to r ⌝ }
@@ -53,7 +54,12 @@ pub fn replay(area: &[u8], plan: Plan, figures: Figures, from: usize, to: usize)
     let mut carried = carried_from(figures);
     let mut i = from;
     while i < to {
-        let Step::Stands(next) = enter(area, plan, carried, i) else {
+        let Step::Stands(next) = enter_at(
+            area,
+            plan,
+            carried,
+            sizes::HEADER_LENGTH + sizes::RECORD_LENGTH * i,
+        ) else {
             return Entered {
                 sound: false,
                 figures: figures_of(carried),
@@ -66,6 +72,269 @@ pub fn replay(area: &[u8], plan: Plan, figures: Figures, from: usize, to: usize)
         sound: true,
         figures: figures_of(carried),
     }
+}
+
+// A lot more on a level stream's figures, as a call enters it: whether it could stand, and the figures after it.
+pub fn enter_lot(
+    plan: Plan,
+    figures: Figures,
+    label: u32,
+    size: u32,
+    wrong: u32,
+    wrong_in_all: u32,
+) -> Entered
+    requires { ⌜ Reached plan figures × (plan .kind ≡ 2) ⌝ }
+    ensures { λ r. ⌜ r ≡ tried plan figures (askedLot plan figures label size wrong «wrong_in_all») ⌝ }
+{
+    if refusing::is_discontinued(figures) {
+        return Entered {
+            sound: false,
+            figures,
+        };
+    }
+    entered_as(
+        figures,
+        step_lot(
+            plan,
+            carried_from(figures),
+            label,
+            size,
+            wrong,
+            wrong_in_all,
+        ),
+    )
+}
+
+// The same of a stop.
+pub fn enter_stop(plan: Plan, figures: Figures, why: u32, days: u32) -> Entered
+    requires { ⌜ Reached plan figures × (plan .kind ≡ 2) ⌝ }
+    ensures { λ r. ⌜ r ≡ tried plan figures (Stop why days) ⌝ }
+{
+    if refusing::is_discontinued(figures) {
+        return Entered {
+            sound: false,
+            figures,
+        };
+    }
+    entered_as(figures, step_stop(plan, carried_from(figures), why, days))
+}
+
+// A step in the figures that it is about.
+fn entered_as(figures: Figures, step: Step) -> Entered
+    ensures { λ r. ⌜ r ≡ enteredAs figures step ⌝ }
+{
+    let Step::Stands(after) = step else {
+        return Entered {
+            sound: false,
+            figures,
+        };
+    };
+    Entered {
+        sound: true,
+        figures: figures_of(after),
+    }
+}
+
+// Enters the record at an offset. Speed: told as a step, the loop is compiled with one jump a record less, a sixth of a long stream.
+fn enter_at(area: &[u8], plan: Plan, carried: Carried, at: usize) -> Step
+    requires { ⌜ ReadAt plan (now area) carried at ⌝ }
+    ensures { λ r. ⌜ enteredAs (figuresIn carried) r ≡ entered plan (figuresIn carried) 0 (recordIn (part at recordLength (now (area .entry)))) ⌝ }
+{
+    let next = brought(area, plan, carried, at);
+    if next.stands {
+        let after = next.carried;
+        return Step::Stands(after);
+    }
+    Step::Fails
+}
+
+// The numbers are lent to `bring` here alone, so that no other function has a reference to them.
+fn brought(area: &[u8], plan: Plan, carried: Carried, at: usize) -> Outcome
+    requires { ⌜ ReadAt plan (now area) carried at ⌝ }
+    ensures { λ r. ⌜ toldAs r ≡ entered plan (figuresIn carried) 0 (recordIn (part at recordLength (now (area .entry)))) ⌝ }
+{
+    let mut here = carried;
+    let stands = bring(&mut here, area, plan, at);
+    Outcome {
+        stands,
+        carried: here,
+    }
+}
+
+// Brings the numbers up to date with the record at an offset; answers whether it could stand.
+fn bring(carried: &mut Carried, area: &[u8], plan: Plan, at: usize) -> bool
+    requires { ⌜ ReadAt plan (now area) (now carried) at ⌝ }
+    ensures { λ r. ⌜ toldAs (record { stands = r; carried = now (carried .exit) }) ≡ entered plan (figuresIn (now (carried .entry))) 0 (recordIn (part at recordLength (now (area .entry)))) ⌝ }
+{
+    let next = next(area, plan, *carried, at);
+    *carried = next.carried;
+    next.stands
+}
+
+// The same by value.
+fn next(area: &[u8], plan: Plan, carried: Carried, at: usize) -> Outcome
+    requires { ⌜ ReadAt plan (now area) carried at ⌝ }
+    ensures { λ r. ⌜ toldAs r ≡ entered plan (figuresIn carried) 0 (recordIn (part at recordLength (now (area .entry)))) ⌝ }
+{
+    let Step::Stands(after) = take(area, plan, carried, at) else {
+        return Outcome {
+            stands: false,
+            carried,
+        };
+    };
+    Outcome {
+        stands: true,
+        carried: after,
+    }
+}
+
+// What the record at an offset does to the numbers, and whether it could stand: the step of the entry that it holds. Speed: a lot without
+// fault is known by one test of its bytes, and each branch reads the record for itself, so that it loads the numbers that it looks at.
+fn take(area: &[u8], plan: Plan, carried: Carried, at: usize) -> Step
+    requires { ⌜ ReadAt plan (now area) carried at ⌝ }
+    ensures { λ r. ⌜ enteredAs (figuresIn carried) r ≡ entered plan (figuresIn carried) 0 (recordIn (part at recordLength (now (area .entry)))) ⌝ }
+{
+    let state = carried.state;
+    if state.level == level::DISCONTINUED {
+        return Step::Fails;
+    }
+    if !replaying::is_faultless(area, at) {
+        return take_other(area, plan, carried, at);
+    }
+    let read = records::get_record_at(area, at);
+    step_good_lot(plan, carried, read.a, read.b)
+}
+
+// The same of a record that is no lot without fault: a stop, or a lot with something wrong. Speed: a function of its own, since within
+// `take` the loop over good lots is laid out with a jump more, a sixth of a long stream.
+fn take_other(area: &[u8], plan: Plan, carried: Carried, at: usize) -> Step
+    requires { ⌜ ReadAt plan (now area) carried at × (isDiscontinued (figuresIn carried) ≡ false) × (faultless (recordIn (part at recordLength (now area))) ≡ false) ⌝ }
+    ensures { λ r. ⌜ enteredAs (figuresIn carried) r ≡ entered plan (figuresIn carried) 0 (recordIn (part at recordLength (now (area .entry)))) ⌝ }
+{
+    if replaying::head_at(area, at) != replaying::LOT {
+        return take_stop(plan, carried, records::get_record_at(area, at));
+    }
+    let read = records::get_record_at(area, at);
+    step_wrong_lot(plan, carried, read.a, read.b, read.c, read.d)
+}
+
+// The same of a record that is no lot's.
+fn take_stop(plan: Plan, carried: Carried, read: Record) -> Step
+    requires { ⌜ Running plan carried × (headOf read ≡ 1 → ⊥) ⌝ }
+    ensures { λ r. ⌜ enteredAs (figuresIn carried) r ≡ entered plan (figuresIn carried) 0 read ⌝ }
+{
+    if replaying::has_more(read) {
+        return Step::Fails;
+    }
+    let head = replaying::head_of(read);
+    if head == replaying::PAUSE {
+        return step_stop(plan, carried, stops::PAUSE, read.a);
+    }
+    if head == replaying::CHANGE {
+        return step_stop(plan, carried, stops::SET_UP_CHANGED, read.a);
+    }
+    Step::Fails
+}
+
+// A lot.
+fn step_lot(
+    plan: Plan,
+    carried: Carried,
+    label: u32,
+    size: u32,
+    wrong: u32,
+    wrong_in_all: u32,
+) -> Step
+    requires { ⌜ Running plan carried ⌝ }
+    ensures { λ r. ⌜ enteredAs (figuresIn carried) r ≡ tried plan (figuresIn carried) (askedLot plan (figuresIn carried) label size wrong «wrong_in_all») ⌝ }
+{
+    if wrong == 0 {
+        if wrong_in_all == 0 {
+            return step_good_lot(plan, carried, label, size);
+        }
+    }
+    step_wrong_lot(plan, carried, label, size, wrong, wrong_in_all)
+}
+
+// A lot with nothing wrong is accepted whole, whatever the sample.
+fn step_good_lot(plan: Plan, carried: Carried, label: u32, size: u32) -> Step
+    requires { ⌜ Running plan carried ⌝ }
+    ensures { λ r. ⌜ enteredAs (figuresIn carried) r ≡ tried plan (figuresIn carried) (askedLot plan (figuresIn carried) label size 0 0) ⌝ }
+{
+    if !refusing::may_follow(limits::LEAST_LEVEL_LOT, carried.newest, label, size) {
+        return Step::Fails;
+    }
+    let state = carried.state;
+    let after = state.judge(plan.option == 1, false);
+    Step::Stands(Carried {
+        state: after,
+        accepted: carried.accepted + size as u64,
+        newest: label as u64,
+    })
+}
+
+// A lot with something wrong is withheld, where refusal 13 leaves it. Speed: it is judged before its sample is worked out, so that the
+// state before it need not be kept.
+fn step_wrong_lot(
+    plan: Plan,
+    carried: Carried,
+    label: u32,
+    size: u32,
+    wrong: u32,
+    wrong_in_all: u32,
+) -> Step
+    requires { ⌜ Running plan carried × ((wrong ≡ 0) × («wrong_in_all» ≡ 0) → ⊥) ⌝ }
+    ensures { λ r. ⌜ enteredAs (figuresIn carried) r ≡ tried plan (figuresIn carried) (askedLot plan (figuresIn carried) label size wrong «wrong_in_all») ⌝ }
+{
+    if !refusing::may_follow(limits::LEAST_LEVEL_LOT, carried.newest, label, size) {
+        return Step::Fails;
+    }
+    let state = carried.state;
+    let fits = fits_sample(plan.a, state.level, size, wrong, wrong_in_all);
+    let after = state.judge(plan.option == 1, true);
+    if fits {
+        return Step::Stands(Carried {
+            state: after,
+            accepted: carried.accepted,
+            newest: label as u64,
+        });
+    }
+    Step::Fails
+}
+
+// What refusal 13 leaves of a lot: as many wrong in all as in the sample, which holds them. The sample itself is worked out only where
+// more is wrong than the least that any lot at this level asks for.
+fn fits_sample(vl: u32, severity: u32, size: u32, wrong: u32, wrong_in_all: u32) -> bool
+    requires { ⌜ (1 ≤ vl) × (vl ≤ 7) ⌝ }
+    ensures { λ r. ⌜ r ≡ fitsSample vl severity size wrong «wrong_in_all» ⌝ }
+{
+    if wrong_in_all != wrong {
+        return false;
+    }
+    if size < wrong {
+        return false;
+    }
+    if wrong <= tables::least_sample(vl) {
+        return true;
+    }
+    wrong <= tables::sample_size(vl, severity, LotSize(size)).0
+}
+
+// A stop moves a stream on reduced.
+fn step_stop(plan: Plan, carried: Carried, why: u32, days: u32) -> Step
+    requires { ⌜ Running plan carried ⌝ }
+    ensures { λ r. ⌜ enteredAs (figuresIn carried) r ≡ tried plan (figuresIn carried) (Stop why days) ⌝ }
+{
+    if !refusing::is_stop(why, days) {
+        return Step::Fails;
+    }
+    let state = carried.state;
+    let after = state.meet_stop(why, days);
+    Step::Stands(Carried {
+        state: after,
+        accepted: carried.accepted,
+        newest: carried.newest,
+    })
 }
 
 fn carried_from(figures: Figures) -> Carried
@@ -91,108 +360,4 @@ fn figures_of(carried: Carried) -> Figures
         accepted: carried.accepted,
         newest: carried.newest,
     }
-}
-
-// Enters the i-th record. Each branch reads the record for itself: so compiled, it loads the numbers that it looks at, and no more.
-fn enter(area: &[u8], plan: Plan, carried: Carried, i: usize) -> Step
-    requires { ⌜ (length (now area) ≡ areaLength) × (i < mostRecords) × Bounded plan carried ⌝ }
-    ensures { λ r. ⌜ r ≡ stepOf plan carried (recordIn (recordAt (now (area .entry)) i)) ⌝ }
-{
-    let state = carried.state;
-    if state.level == level::DISCONTINUED {
-        return Step::Fails;
-    }
-    if !replaying::is_faultless(area, sizes::HEADER_LENGTH + sizes::RECORD_LENGTH * i) {
-        return enter_other(area, plan, carried, i);
-    }
-    let read = records::get_record(area, i);
-    if !may_follow(carried, read) {
-        return Step::Fails;
-    }
-    let after = state.judge(plan.option == 1, false);
-    Step::Stands(Carried {
-        state: after,
-        accepted: carried.accepted + read.b as u64,
-        newest: read.a as u64,
-    })
-}
-
-// Enters the i-th record, which is no lot without fault: a stop, or a lot with something wrong.
-fn enter_other(area: &[u8], plan: Plan, carried: Carried, i: usize) -> Step
-    requires { ⌜ (length (now area) ≡ areaLength) × (i < mostRecords) × Bounded plan carried × (carried .state .level ≡ discontinued → ⊥) × (faultless (recordIn (recordAt (now area) i)) ≡ false) ⌝ }
-    ensures { λ r. ⌜ r ≡ stepOf plan carried (recordIn (recordAt (now (area .entry)) i)) ⌝ }
-{
-    if replaying::head_at(area, sizes::HEADER_LENGTH + sizes::RECORD_LENGTH * i) != replaying::LOT {
-        return enter_stop(area, carried, i);
-    }
-    let read = records::get_record(area, i);
-    if !may_follow(carried, read) {
-        return Step::Fails;
-    }
-    enter_wrong_lot(plan, carried, read)
-}
-
-// A stop moves a stream on reduced.
-fn enter_stop(area: &[u8], carried: Carried, i: usize) -> Step
-    requires { ⌜ (length (now area) ≡ areaLength) × (i < mostRecords) ⌝ }
-    ensures { λ r. ⌜ r ≡ stopStep carried (recordIn (recordAt (now (area .entry)) i)) ⌝ }
-{
-    let read = records::get_record(area, i);
-    if !replaying::is_stop(replaying::head_of(read), read) {
-        return Step::Fails;
-    }
-    let state = carried.state;
-    let after = state.meet_stop(read.flag as u32, read.a);
-    Step::Stands(Carried {
-        state: after,
-        accepted: carried.accepted,
-        newest: carried.newest,
-    })
-}
-
-// What refusals 10 and 11 leave: a label other than the newest lot's, and a size in range.
-fn may_follow(carried: Carried, read: Record) -> bool
-    ensures { λ r. ⌜ r ≡ mayFollow 2 (carried .newest) read ⌝ }
-{
-    if read.a as u64 == carried.newest {
-        return false;
-    }
-    plan::within(2, limits::LARGEST_LOT, read.b)
-}
-
-// A lot with something wrong is withheld, where refusal 13 leaves it. It is judged first, so that the state before it need not be
-// kept while its sample is worked out.
-fn enter_wrong_lot(plan: Plan, carried: Carried, read: Record) -> Step
-    requires { ⌜ Bounded plan carried × (mayFollow 2 (carried .newest) read ≡ true) × (noneWrong read ≡ false) ⌝ }
-    ensures { λ r. ⌜ r ≡ lotStep plan carried read ⌝ }
-{
-    let state = carried.state;
-    let fits = fits_sample(plan.a, state.level, read);
-    let after = state.judge(plan.option == 1, true);
-    if fits {
-        return Step::Stands(Carried {
-            state: after,
-            accepted: carried.accepted,
-            newest: read.a as u64,
-        });
-    }
-    Step::Fails
-}
-
-// What refusal 13 leaves of a lot: as many wrong in all as in the sample, which holds them. The sample itself is worked out only where
-// more is wrong than the least that any lot at this level asks for.
-fn fits_sample(vl: u32, severity: u32, read: Record) -> bool
-    requires { ⌜ (1 ≤ vl) × (vl ≤ 7) ⌝ }
-    ensures { λ r. ⌜ r ≡ fitsSample vl severity read ⌝ }
-{
-    if read.d != read.c {
-        return false;
-    }
-    if read.b < read.c {
-        return false;
-    }
-    if read.c <= tables::least_sample(vl) {
-        return true;
-    }
-    read.c <= tables::sample_size(vl, severity, LotSize(read.b)).0
 }

@@ -2,7 +2,11 @@
 pub mod Heads
 pub mod RecordForm
 pub mod Parts
-pub mod Answers
-pub mod Stops
+pub mod Lent
+pub mod Carries
+pub mod Bringing
+pub mod Lending
 pub mod Turns
 pub mod LotStreams
+pub mod Tried
+pub mod Reached

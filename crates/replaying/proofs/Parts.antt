@@ -36,8 +36,6 @@ use Rattle.model.specs.Area.{
 use Rattle.model.proofs.Booleans.{both-true}
 use Rattle.model.proofs.Allowed.{newest-of, count-within, plan-range}
 use Rattle.model.proofs.Keeping.{plan-of, entries-of, opened-admissible, entry-admissible}
-use Rattle.model.specs.FigureBounds.{FiguresWithin}
-use Rattle.model.proofs.FigureBounds.{figures-within}
 use Rattle.model.proofs.AreaReading.{
   length-record,
   length-records,
@@ -125,14 +123,6 @@ module _ (p : Plan) (area : List ℕ) where
       let last = record-of p (figuresTo p area i) (recordAt area i) (length-record-at area i l h room) bytes (newest .formed) in
       let size : recordLength * suc i ≡ recordLength * i + recordLength = omega arith in
       rw (size, take-add (recordLength * i) recordLength (recordsIn area), others, last)
-
-  -- the figures after them fit their bytes
-  pub figures-to-within : (i : ℕ) → length area ≡ areaLength → AreBytes area → i ≤ 128 → standTo p area i ≡ true
-      → T (validPlan p) → FiguresWithin i (figuresTo p area i)
-  unfolding figuresTo
-  figures-to-within i l h room e valid =
-      rw (length-entries p (recordsIn area) i) at
-      (figures-within p (entriesIn p (recordsIn area) i) valid (stand-admissible i l h room e))
 
 -- ---- from the parts to the reading
 

@@ -24,8 +24,7 @@ use Rattle.model.proofs.AreaReading.{entry-read}
 use Rattle.records.specs.declared.Record.{Record}
 use Rattle.records.specs.Records.{recordIn}
 use Rattle.records.proofs.Laws.{value-within, part-of-value, part-of-byte, part-join}
-use Rattle.replaying.specs.Replaying.{entryOf, oneNumber, NoMore, wellFormed}
-use Rattle.replaying.proofs.Answers.{no-more}
+use Rattle.replaying.specs.Replaying.{entryOf, oneNumber, wellFormed}
 
 -- the entry in a record's bytes is the one of its numbers
 entry-in : (p : Plan) (f : Figures) (r : List ℕ) → entryIn p f r ≡ entryOf p f (recordIn r)
@@ -65,10 +64,12 @@ entry-bytes p f x e = go (eqb (x .kind) 1) (eqb (x .kind) 2) (eqb (x .kind) 3) r
     form = both-true (eqb (x .spare) 0) _ e .1
 
     -- of another kind than a lot
-    plain : eqb (x .kind) 1 ≡ false → (eqb (x .kind) 2 || eqb (x .kind) 3 || eqb (x .kind) 4 ≡ true) × NoMore x
+    plain : eqb (x .kind) 1 ≡ false → (eqb (x .kind) 2 || eqb (x .kind) 3 || eqb (x .kind) 4 ≡ true) × (x .b ≡ 0) × (x .c ≡ 0) × (x .d ≡ 0)
     plain i =
         let both = both-true (eqb (x .kind) 2 || eqb (x .kind) 3 || eqb (x .kind) 4) (oneNumber x) (rw i at form) in
-        (both .0, no-more x (both .1))
+        let all = both-true (eqb (x .b) 0 && eqb (x .c) 0) (eqb (x .d) 0) (both .1) in
+        let two = both-true (eqb (x .b) 0) (eqb (x .c) 0) (all .0) in
+        (both .0, eqb-true (x .b) 0 (two .0), eqb-true (x .c) 0 (two .1), eqb-true (x .d) 0 (all .1))
 
     go : (one two three : Bool) → eqb (x .kind) 1 ≡ one → eqb (x .kind) 2 ≡ two → eqb (x .kind) 3 ≡ three
         → recordOf (entryOf p f x) ≡ recordBytes (x .kind) (x .flag) (x .a) (x .b) (x .c) (x .d)

@@ -1,34 +1,36 @@
 -- One turn of a replay: `Ready` of the records that are left is what its loop keeps. Assumes nothing.
-use Prim.Native.Nat.{ℕ, suc, _+_, _≤_, _<_}
+use Prim.Native.Nat.{ℕ, suc, _+_, _*_, _≤_, _<_}
 use mathlib.Core.Path.{_≡_, refl, sym, ap, _∙_}
 use mathlib.Core.Bool.{true, false}
 use mathlib.Core.List.{List}
 use native.Mathlib.Numerals.{add-one}
 use native.Mathlib.Omega.{arith}
 use lib.Dec.{T}
-use Rattle.little.specs.Little.{AreBytes}
+use Rattle.little.specs.Little.{part, AreBytes}
 use Rattle.model.specs.declared.Plan.{Plan}
 use Rattle.model.specs.declared.Figures.{Figures}
+use Rattle.model.specs.Sizes.{recordLength, headerLength}
 use Rattle.model.specs.Figuring.{started, figuresOf}
 use Rattle.model.specs.Calls.{admissible}
 use Rattle.model.specs.Area.{entriesIn}
 use Rattle.model.proofs.Booleans.{never-both}
-use Rattle.model.specs.FigureBounds.{FiguresWithin}
 use Rattle.records.specs.Records.{recordIn, recordAt}
+use Rattle.records.proofs.Laws.{record-at}
 use Rattle.replaying.specs.declared.Entered.{Entered}
 use Rattle.replaying.specs.Replaying.{entered, recordsIn, figuresTo, standTo, Ready, Replayed}
-use Rattle.replaying.proofs.Parts.{figures-next, stand-fails, stand-admissible, figures-to-within}
+use Rattle.replaying.proofs.Parts.{figures-next, stand-fails, stand-admissible}
+use Rattle.replaying.proofs.Tried.{entered-anywhere}
 
 module _ (p : Plan) (area : List ℕ) (f : Figures) (i to : ℕ) (ready : Ready p area f i to) where
-  -- calls could have left the records before, so that the figures fit their bytes
-  module _ (bytes : AreBytes area) where
-    pub ready-admissible : T (admissible p (entriesIn p (recordsIn area) i))
-    ready-admissible = stand-admissible p area i (ready .whole) bytes (omega arith) (ready .stood)
+  -- calls could have left the records before
+  pub ready-admissible : AreBytes area → T (admissible p (entriesIn p (recordsIn area) i))
+  ready-admissible bytes = stand-admissible p area i (ready .whole) bytes (omega arith) (ready .stood)
 
-    pub ready-within : FiguresWithin i f
-    ready-within = rw (ready .brought) (figures-to-within p area i (ready .whole) bytes (omega arith) (ready .stood) (ready .valid))
+  -- the record of the turn, read at its offset
+  module _ (more : i < to) (step : Entered) (read : step ≡ entered p f 0 (recordIn (part (headerLength + recordLength * i) recordLength area))) where
+    made : step ≡ entered p f i (recordIn (recordAt area i))
+    made = read ∙ rw (record-at area i (omega (arith, ready .room))) (sym (entered-anywhere p f _ i (omega (arith, ready .room))))
 
-  module _ (more : i < to) (step : Entered) (made : step ≡ entered p f i (recordIn (recordAt area i))) where
     next-stands : step .sound ≡ standTo p area (suc i)
     unfolding entered standTo
     next-stands = ap (λ (e : Entered). e .sound) made ∙ rw (ready .stood, ← ready .brought)

@@ -1,17 +1,16 @@
 -- Reading an area record after record: what each record has to be, and what the replay then knows. Assumes nothing.
-use Prim.Native.Nat.{ℕ, zero, suc, _+_, _*_, _≤_}
+use Prim.Native.Nat.{ℕ, zero, suc, _+_, _*_, _≤_, _<_}
 use mathlib.Core.Bool.{Bool, true, false, cond, _&&_, _||_}
 use mathlib.Core.List.{List}
 use mathlib.Core.Path.{_≡_}
-use lib.Dec.{T, eqb, leb}
+use lib.Dec.{T, eqb}
 use lib.ListN.{length}
 use Rattle.little.specs.Little.{part}
-use Rattle.plans.specs.Limits.{longestStop}
 use Rattle.model.specs.declared.Plan.{Plan}
 use Rattle.model.specs.declared.Entry.{Entry}
 use Rattle.model.specs.declared.Entry.the-variants.{Lot, Run, Block, Stop}
 use Rattle.model.specs.declared.Figures.{Figures}
-use Rattle.model.specs.Calls.{accepts}
+use Rattle.model.specs.Calls.{accepts, admissible}
 use Rattle.model.specs.Sizes.{recordLength, headerLength, mostRecords, areaLength}
 use Rattle.model.specs.Stations.{validPlan}
 use Rattle.model.specs.Figuring.{sampleAsked, stepped, figuresOf}
@@ -31,12 +30,6 @@ entryOf p f r =
 abbrev pub oneNumber : Record → Bool
 oneNumber r = eqb (r .b) 0 && eqb (r .c) 0 && eqb (r .d) 0
 
--- and what that test says
-pub record NoMore (r : Record) : Type 0 where
-  pub noSecond : r .b ≡ 0
-  pub noThird : r .c ≡ 0
-  pub noFourth : r .d ≡ 0
-
 -- a record of a kind that exists, with zeros wherever its kind has nothing to say
 unfoldable pub wellFormed : Record → Bool
 wellFormed r =
@@ -48,16 +41,9 @@ wellFormed r =
 unfoldable pub headOf : Record → ℕ
 headOf r = r .kind + r .flag * 256 + r .spare * 65536
 
--- a record of a stop whose arguments no stream refuses: a pause of up to `longestStop` days, or another set-up
-unfoldable pub isStop : Record → Bool
-isStop r = oneNumber r && cond (eqb (headOf r) 260) (leb (r .a) longestStop) (eqb (headOf r) 516 && eqb (r .a) 0)
-
--- nothing wrong in the sample of a lot's record, nor in all that was heard; and a lot's record of which that is so
-unfoldable pub noneWrong : Record → Bool
-noneWrong r = eqb (r .c) 0 && eqb (r .d) 0
-
+-- a lot's record with nothing wrong in the sample, nor in all that was heard
 unfoldable pub faultless : Record → Bool
-faultless r = eqb (headOf r) 1 && noneWrong r
+faultless r = eqb (headOf r) 1 && (eqb (r .c) 0 && eqb (r .d) 0)
 
 -- a record that some accepted call could have left as the i-th, after figures f
 unfoldable pub stands : Plan → Figures → ℕ → Record → Bool
@@ -70,6 +56,22 @@ enteredIf test after before = record { sound = test; figures = cond test after b
 -- what entering a record gives: whether it stands, and the figures after it
 unfoldable pub entered : Plan → Figures → ℕ → Record → Entered
 entered p f i r = enteredIf (stands p f i r) (stepped p (entryOf p f r) f) f
+
+-- what an entry gives wherever a place is free: whether it is accepted, and the figures after it
+unfoldable pub tried : Plan → Figures → Entry → Entered
+tried p f e = enteredIf (accepts p f 0 e) (stepped p e f) f
+
+-- a lot with the sample that was asked
+unfoldable pub askedLot : Plan → Figures → ℕ → ℕ → ℕ → ℕ → Entry
+askedLot p f label N d D = Lot label N (sampleAsked p f N) d D
+
+-- figures that calls could have left, with a place free for one entry more
+pub record Reached (p : Plan) (f : Figures) : Type 0 where
+  pub entries : List Entry
+  pub valid : T (validPlan p)
+  pub stood : T (admissible p entries)
+  pub free : length entries < mostRecords
+  pub after : f ≡ figuresOf p entries
 
 -- a record that stands brings other figures; one that cannot leaves them
 unfoldable pub soundAt : Figures → Entered

@@ -1,14 +1,14 @@
 // Reading an area record after record: what each record has to be, and what a replay of them knows. The loops themselves are in a
 // crate for each plan; here are the definitions and laws that they share.
 ghost use mathlib.Core.Path.{_≡_};
+ghost use mathlib.Core.Bool.{not};
 ghost use Prim.Native.Nat.{_+_, _≤_, _<_};
 ghost use lib.ListN.{length};
 ghost use Rattle.little.specs.Little.{part};
 ghost use Rattle.model.specs.Sizes.{recordLength};
 ghost use Rattle.records.specs.Records.{recordIn};
-ghost use Rattle.replaying.specs.Replaying.{headOf, isStop, faultless};
+ghost use Rattle.replaying.specs.Replaying.{headOf, oneNumber, faultless};
 use model::Figures;
-use plans::limits;
 use records::Record;
 
 // Records entered: whether each could stand there, and the figures after them.
@@ -40,27 +40,11 @@ pub fn head_of(read: Record) -> u32
     read.kind as u32 + read.flag as u32 * 256 + read.spare as u32 * 65536
 }
 
-// Whether a record is a stop whose arguments no stream refuses.
-pub fn is_stop(head: u32, read: Record) -> bool
-    requires { ⌜ head ≡ headOf read ⌝ }
-    ensures { λ r. ⌜ r ≡ isStop read ⌝ }
+// Whether a record has a second, third or fourth number. The three are put together first, so that one comparison tells.
+pub fn has_more(read: Record) -> bool
+    ensures { λ r. ⌜ r ≡ not (oneNumber read) ⌝ }
 {
-    if read.b != 0 {
-        return false;
-    }
-    if read.c != 0 {
-        return false;
-    }
-    if read.d != 0 {
-        return false;
-    }
-    if head == PAUSE {
-        return read.a <= limits::LONGEST_STOP;
-    }
-    if head == CHANGE {
-        return read.a == 0;
-    }
-    false
+    (read.b as u64 + read.c as u64 * 4294967296) | read.d as u64 != 0
 }
 
 // The head of the record at an offset: one load.

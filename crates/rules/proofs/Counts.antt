@@ -4,7 +4,7 @@ use mathlib.Core.Path.{_≡_, refl, sym, _∙_}
 use mathlib.Core.Bool.{Bool, true, false, not, _||_}
 use native.Mathlib.Omega.{arith}
 use lib.Dec.{eqb, leb}
-use borrow.Author.Tests.{eqb-true, leb-true, not-false}
+use borrow.Author.Tests.{eqb-true, leb-true}
 use Rattle.plans.specs.Limits.{largestLot}
 use Rattle.plans.specs.Credit.{creditVerdict}
 use Rattle.plans.specs.Verdicts.{lotHeard, lotWithheld, levelVerdict}
@@ -21,8 +21,8 @@ use Rattle.model.proofs.Allowed.{AllowedLot}
 use Rattle.model.proofs.FigureBounds.{lot-size-range}
 
 -- the size of a lot that passed refusal 11
-pub size-passed : (p : Plan) (N : ℕ) (out : Bool) → out ≡ not (sizeInRange p N) → out ≡ false → (1 ≤ N) × (N ≤ largestLot)
-size-passed p N out e passed = lot-size-range p N (not-false (sizeInRange p N) (sym e ∙ passed))
+pub size-passed : (p : Plan) (N : ℕ) {r : Bool} → r ≡ sizeInRange p N → r ≡ true → (1 ≤ N) × (N ≤ largestLot)
+size-passed p N e passed = lot-size-range p N (sym e ∙ passed)
 
 -- no sample is larger than its lot
 pub sample-at-most : (p : Plan) (f : Figures) (N : ℕ) → sampleAsked p f N ≤ N

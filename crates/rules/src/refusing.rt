@@ -1,47 +1,33 @@
-// Which refusal a call gets on an opened stream: paper 01, "Calls", each list of refusals in the paper's order.
+// Which refusal a call gets on an opened stream: paper 01, "Calls", each list of refusals in the paper's order. The last of a call that
+// enters something (13 of a lot, 14 of a run or block, 15 of a stop) is not tested here: it is given where the step of the plan fails.
 ghost use mathlib.Core.Path.{_≡_};
 ghost use mathlib.Core.Bool.{not, _&&_, _||_};
-ghost use Prim.Native.Nat.{_+_, _-_, _≤_, _<_};
+ghost use Prim.Native.Nat.{ℕ, _+_, _-_, _≤_};
 ghost use Rattle.plans.specs.Limits.{largestLot};
 ghost use Rattle.plans.specs.Verdicts.{lotHeard, lotWithheld};
 ghost use lib.Dec.{T, eqb};
+ghost use Rattle.model.specs.declared.Plan.{Plan};
+ghost use Rattle.model.specs.declared.Figures.{Figures};
 ghost use Rattle.model.specs.declared.Entry.the-variants.{Lot, Run, Block, Stop};
 ghost use Rattle.model.specs.Sizes.{mostRecords};
-ghost use Rattle.model.specs.Stations.{validPlan, within};
-ghost use Rattle.model.specs.Calls.{
-  firstOf,
-  entryRefusals,
-  askRefusals,
-  isDiscontinued,
-  sameLabel,
-  sizeInRange,
-  countsAgree,
-};
+ghost use Rattle.model.specs.Stations.{validPlan, within, isLevel};
+ghost use Rattle.model.specs.Calls.{firstOf, askRefusals, isDiscontinued, sizeInRange, countsAgree};
 ghost use Rattle.model.specs.FigureBounds.{FiguresWithin};
+ghost use Rattle.rules.specs.Refusing.{UpToLast, mayFollow, isStop};
 use crate::asking;
 use crate::plan;
 use model::Figures;
 use model::Plan;
 use model::sizes::MOST_RECORDS;
-use plans::continuous;
 use plans::level;
 use plans::limits;
 use plans::stops;
 use plans::verdict;
 
-// The refusal of a lot.
-pub fn lot(
-    plan: Plan,
-    figures: Figures,
-    count: usize,
-    label: u32,
-    size: u32,
-    sample: u32,
-    wrong: u32,
-    wrong_in_all: u32,
-) -> u32
+// The refusal of a lot, up to 12.
+pub fn lot(plan: Plan, figures: Figures, count: usize, label: u32, size: u32, sample: u32) -> u32
     requires { ⌜ T (validPlan plan) × FiguresWithin count figures × (count ≤ mostRecords) ⌝ }
-    ensures { λ r. ⌜ r ≡ firstOf (entryRefusals plan figures count (Lot label size sample wrong «wrong_in_all»)) ⌝ }
+    ensures { λ r. ⌜ ((d D : ℕ) → UpToLast plan figures count (Lot label size sample d D) 13 r) ⌝ }
 {
     if plan.kind == plan::CONTINUOUS {
         return 7;
@@ -52,31 +38,21 @@ pub fn lot(
     if MOST_RECORDS <= count {
         return 9;
     }
-    if is_same_label(figures, label) {
+    if is_same_label(figures.newest, label) {
         return 10;
     }
-    if is_size_out(plan, size) {
+    if !is_size(plan, size) {
         return 11;
     }
     if sample != asking::sample(plan, figures, size) {
         return 12;
     }
-    if do_counts_agree(
-        asking::verdict(plan, figures, wrong),
-        size,
-        sample,
-        wrong,
-        wrong_in_all,
-    ) {
-        return 0;
-    }
-    13
+    0
 }
 
-// The refusal of a run.
-pub fn run(plan: Plan, figures: Figures, count: usize, right: u32, wrong: u32) -> u32
-    requires { ⌜ FiguresWithin count figures ⌝ }
-    ensures { λ r. ⌜ r ≡ firstOf (entryRefusals plan figures count (Run right wrong)) ⌝ }
+// The refusal of a run, up to 15.
+pub fn run(plan: Plan, count: usize, right: u32, wrong: u32) -> u32
+    ensures { λ r. ⌜ ((f : Figures) → UpToLast plan f count (Run right wrong) 14 r) ⌝ }
 {
     if plan.kind != plan::CONTINUOUS {
         return 7;
@@ -93,19 +69,12 @@ pub fn run(plan: Plan, figures: Figures, count: usize, right: u32, wrong: u32) -
     if right + wrong == 0 {
         return 15;
     }
-    let state = figures.continuous;
-    if state.phase == continuous::SAMPLING {
-        return 14;
-    }
-    if plan.a < state.count + right + wrong {
-        return 14;
-    }
     0
 }
 
-// The refusal of a block.
-pub fn block(plan: Plan, figures: Figures, count: usize, heard: u32, wrong: u32) -> u32
-    ensures { λ r. ⌜ r ≡ firstOf (entryRefusals plan figures count (Block heard wrong)) ⌝ }
+// The refusal of a block, up to 15.
+pub fn block(plan: Plan, count: usize, heard: u32, wrong: u32) -> u32
+    ensures { λ r. ⌜ ((f : Figures) → UpToLast plan f count (Block heard wrong) 14 r) ⌝ }
 {
     if plan.kind != plan::CONTINUOUS {
         return 7;
@@ -113,46 +82,24 @@ pub fn block(plan: Plan, figures: Figures, count: usize, heard: u32, wrong: u32)
     if MOST_RECORDS <= count {
         return 9;
     }
-    if heard < 1 {
-        return 15;
-    }
-    if plan.b < heard {
+    if !plan::within(1, plan.b, heard) {
         return 15;
     }
     if 1 < wrong {
         return 15;
     }
-    let state = figures.continuous;
-    if state.phase != continuous::SAMPLING {
-        return 14;
-    }
     0
 }
 
-// The refusal of a stop.
-pub fn stop(plan: Plan, figures: Figures, count: usize, why: u32, days: u32) -> u32
-    ensures { λ r. ⌜ r ≡ firstOf (entryRefusals plan figures count (Stop why days)) ⌝ }
+// The refusal of a stop, up to 9.
+pub fn stop(figures: Figures, count: usize) -> u32
+    ensures { λ r. ⌜ ((p : Plan) (why days : ℕ) → UpToLast p figures count (Stop why days) 15 r) ⌝ }
 {
     if is_discontinued(figures) {
         return 8;
     }
     if MOST_RECORDS <= count {
         return 9;
-    }
-    if why < 1 {
-        return 15;
-    }
-    if 2 < why {
-        return 15;
-    }
-    if limits::LONGEST_STOP < days {
-        return 15;
-    }
-    if why != stops::SET_UP_CHANGED {
-        return 0;
-    }
-    if 0 < days {
-        return 15;
     }
     0
 }
@@ -167,36 +114,62 @@ pub fn ask(plan: Plan, figures: Figures, size: u32) -> u32
     if is_discontinued(figures) {
         return 8;
     }
-    if is_size_out(plan, size) {
+    if !is_size(plan, size) {
         return 11;
     }
     0
 }
 
-fn is_discontinued(figures: Figures) -> bool
+// 8: the stream is discontinued.
+pub fn is_discontinued(figures: Figures) -> bool
     ensures { λ r. ⌜ r ≡ isDiscontinued figures ⌝ }
 {
     let state = figures.level;
     state.level == level::DISCONTINUED
 }
 
-fn is_same_label(figures: Figures, label: u32) -> bool
-    ensures { λ r. ⌜ r ≡ sameLabel figures label ⌝ }
+// 10: the newest standing lot's label again.
+fn is_same_label(newest: u64, label: u32) -> bool
+    ensures { λ r. ⌜ r ≡ eqb label newest ⌝ }
 {
-    label as u64 == figures.newest
+    label as u64 == newest
 }
 
-fn is_size_out(plan: Plan, size: u32) -> bool
-    ensures { λ r. ⌜ r ≡ not (sizeInRange plan size) ⌝ }
+// What 11 leaves.
+fn is_size(plan: Plan, size: u32) -> bool
+    ensures { λ r. ⌜ r ≡ sizeInRange plan size ⌝ }
 {
     if plan.kind == plan::LEVEL {
-        return !plan::within(2, limits::LARGEST_LOT, size);
+        return plan::within(limits::LEAST_LEVEL_LOT, limits::LARGEST_LOT, size);
     }
-    !plan::within(1, limits::LARGEST_LOT, size)
+    plan::within(limits::LEAST_LOT, limits::LARGEST_LOT, size)
+}
+
+// What 10 and 11 leave of a lot on a stream whose lots have at least so many detections.
+pub fn may_follow(least: u32, newest: u64, label: u32, size: u32) -> bool
+    ensures { λ r. ⌜ r ≡ mayFollow least newest label size ⌝ }
+{
+    if is_same_label(newest, label) {
+        return false;
+    }
+    plan::within(least, limits::LARGEST_LOT, size)
+}
+
+// What 15 leaves of a stop.
+pub fn is_stop(why: u32, days: u32) -> bool
+    ensures { λ r. ⌜ r ≡ isStop why days ⌝ }
+{
+    if why == stops::SET_UP_CHANGED {
+        return days == 0;
+    }
+    if why == stops::PAUSE {
+        return days <= limits::LONGEST_STOP;
+    }
+    false
 }
 
 // Whether the counts of a lot agree: what refusal 13 leaves.
-fn do_counts_agree(verdict: u32, size: u32, sample: u32, wrong: u32, wrong_in_all: u32) -> bool
+pub fn do_counts_agree(verdict: u32, size: u32, sample: u32, wrong: u32, wrong_in_all: u32) -> bool
     requires { ⌜ (sample ≤ size) × (size ≤ largestLot) ⌝ }
     ensures { λ r. ⌜ r ≡ countsAgree verdict size sample wrong «wrong_in_all» ⌝ }
 {
@@ -220,7 +193,7 @@ fn is_none_missed(wrong: u32, wrong_in_all: u32) -> bool
 }
 
 // The range of all that was found wrong, by the verdict.
-pub fn is_by_verdict(verdict: u32, size: u32, sample: u32, wrong: u32, wrong_in_all: u32) -> bool
+fn is_by_verdict(verdict: u32, size: u32, sample: u32, wrong: u32, wrong_in_all: u32) -> bool
     requires { ⌜ (wrong ≤ sample) × (sample ≤ size) × (size ≤ largestLot) ⌝ }
     ensures { λ r. ⌜ r ≡ (not (eqb verdict lotHeard) || within wrong (size - sample + wrong) «wrong_in_all») && (not (eqb verdict lotWithheld) || eqb «wrong_in_all» wrong) ⌝ }
 {

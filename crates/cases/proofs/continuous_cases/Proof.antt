@@ -6,18 +6,9 @@ use borrow.Author.Needs.{needs}
 use Rattle.cases.proofs.continuous_cases.Statement.{statement}
 use Rattle.cases.proofs.continuous_cases.Tie as tie
 
-screen-requires : tie.Need-screen-requires
-screen-requires c κs = search needs
-
 run-requires : tie.Need-run-requires
 unfolding screening
 run-requires c κs = rw (c .screen .ensures) (omega arith)
-
-block-requires : tie.Need-block-requires
-block-requires c κs = search needs
-
-block-requires-2 : tie.Need-block-requires-2
-block-requires-2 c κs = search needs
 
 add-t6 : tie.Need-add-t6
 unfolding afterBlock
@@ -32,6 +23,4 @@ unfolding continuousCases cleared rightBlock wrongBlock givenIn statedIn
 returns c = cc (proved-cases .2)
 
 pub continuous-cases-spec : {M : Type 1} → statement M
-continuous-cases-spec =
-    tie.close
-    (tie.spec screen-requires run-requires block-requires block-requires-2 add-t6 add-t7 returns)
+continuous-cases-spec = tie.close (tie.spec (λ c κs. search needs) run-requires (λ c κs. search needs) (λ c κs. search needs) add-t6 add-t7 returns)

@@ -50,15 +50,6 @@ loop-again c =
       fed-next _ (start .args .piece .now) (start .args .out .now) (at-loop .loop .store) (at-loop .loop .line) (at-loop .loop .out) (at-loop .loop .i) (at-loop .loop .kept) (at-loop .loop .wrote) (inv .3) (omega arith) _ _ _ _ some,
     )
 
-same-length : tie.Need-same-length Inv-loop μ-loop
-same-length c = search needs
-
-same-length-2 : tie.Need-same-length-2 Inv-loop μ-loop
-same-length-2 c = search needs
-
-same-length-3 : tie.Need-same-length-3 Inv-loop μ-loop
-same-length-3 c = search needs
-
 returns : tie.Need-returns Inv-loop μ-loop
 returns c =
     let at-loop = c .before in
@@ -69,14 +60,5 @@ returns c =
 pub feed-spec : {M : Type 1} → statement M
 feed-spec =
     tie.close
-    (tie.spec
-    Inv-loop
-    μ-loop
-    loop-holds
-    take-some-requires
-    loop-less
-    loop-again
-    same-length
-    same-length-2
-    same-length-3
+    (tie.spec Inv-loop μ-loop loop-holds take-some-requires loop-less loop-again (λ c. search needs) (λ c. search needs) (λ c. search needs)
     returns)

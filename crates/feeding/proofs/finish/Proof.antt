@@ -14,27 +14,10 @@ slice-aggregate-end-line c =
     let start = c .before .before .before .before .before .before in
     sym (length-take-le (start .args .have) (start .args .line .now) (start .pre .0))
 
-end-line-requires : tie.Need-end-line-requires
-end-line-requires c κs = search needs
-
-same-length : tie.Need-same-length
-same-length c = search needs
-
-same-length-2 : tie.Need-same-length-2
-same-length-2 c = search needs
-
 returns-2 : tie.Need-returns-2
 returns-2 c =
     let start = c .before .before .before .before .before .before .before .before .before .before .before .before in
     last-line _ _ _ _ _ _ _ (omega arith) (start .pre .0) (start .pre .1) (c .before .before .before .before .end-line .ensures)
 
 pub finish-spec : {M : Type 1} → statement M
-finish-spec =
-    tie.close
-    (tie.spec
-    returns
-    slice-aggregate-end-line
-    end-line-requires
-    same-length
-    same-length-2
-    returns-2)
+finish-spec = tie.close (tie.spec returns slice-aggregate-end-line (λ c κs. search needs) (λ c. search needs) (λ c. search needs) returns-2)

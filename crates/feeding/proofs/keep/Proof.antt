@@ -5,15 +5,6 @@ use Rattle.feeding.proofs.Laws.{kept-byte, not-kept}
 use Rattle.feeding.proofs.keep.Statement.{statement}
 use Rattle.feeding.proofs.keep.Tie as tie
 
-slice-write-line : tie.Need-slice-write-line
-slice-write-line c = search needs
-
-add-result : tie.Need-add-result
-add-result c = search needs
-
-same-length : tie.Need-same-length
-same-length c = search needs
-
 returns : tie.Need-returns
 returns c =
     (kept-byte (c .before .args .line .now) (c .before .args .have) (c .before .args .byte) (c .before .pre .0) (c .if1 .taken), omega arith, rw length-set (c .before .pre .0))
@@ -23,4 +14,4 @@ returns-2 c =
     (not-kept (c .before .args .line .now) (c .before .args .have) (c .before .args .byte) (c .before .pre .0) (c .before .pre .1) (c .if1 .left), c .before .pre .1, c .before .pre .0)
 
 pub keep-spec : {M : Type 1} → statement M
-keep-spec = tie.close (tie.spec slice-write-line add-result same-length returns returns-2)
+keep-spec = tie.close (tie.spec (λ c. search needs) (λ c. search needs) (λ c. search needs) returns returns-2)

@@ -11,38 +11,11 @@ use Rattle.feeding.proofs.take_frame.Tie as tie
 returns : tie.Need-returns
 returns c = frame-not-taken _ _ _ _ _ _
 
-sub-if2 : tie.Need-sub-if2
-sub-if2 c = search needs
-
 returns-2 : tie.Need-returns-2
 returns-2 c = frame-not-taken _ _ _ _ _ _
 
-add-end : tie.Need-add-end
-add-end c = search needs
-
-shared-slice-read-if3 : tie.Need-shared-slice-read-if3
-shared-slice-read-if3 c = search needs
-
 returns-3 : tie.Need-returns-3
 returns-3 c = frame-not-taken _ _ _ _ _ _
-
-sub-make-frame : tie.Need-sub-make-frame
-sub-make-frame c = search needs
-
-part-make-frame-start : tie.Need-part-make-frame-start
-part-make-frame-start c = search needs
-
-part-make-frame-end : tie.Need-part-make-frame-end
-part-make-frame-end c = search needs
-
-make-frame-requires : tie.Need-make-frame-requires
-make-frame-requires c κs = search needs
-
-same-length : tie.Need-same-length
-same-length c = search needs
-
-same-length-2 : tie.Need-same-length-2
-same-length-2 c = search needs
 
 returns-4 : tie.Need-returns-4
 unfolding part
@@ -56,17 +29,5 @@ returns-4 c =
 pub take-frame-spec : {M : Type 1} → statement M
 take-frame-spec =
     tie.close
-    (tie.spec
-    returns
-    sub-if2
-    returns-2
-    add-end
-    shared-slice-read-if3
-    returns-3
-    sub-make-frame
-    part-make-frame-start
-    part-make-frame-end
-    make-frame-requires
-    same-length
-    same-length-2
-    returns-4)
+    (tie.spec returns (λ c. search needs) returns-2 (λ c. search needs) (λ c. search needs) returns-3 (λ c. search needs) (λ c. search needs)
+    (λ c. search needs) (λ c κs. search needs) (λ c. search needs) (λ c. search needs) returns-4)

@@ -14,9 +14,6 @@ use borrow.Author.Needs.{needs}
 use Rattle.frame_text.proofs.all_digits.Statement.{statement}
 use Rattle.frame_text.proofs.all_digits.Tie as tie
 
-digits-at-requires : tie.Need-digits-at-requires
-digits-at-requires c κs = search needs
-
 -- where the first 32 bytes are digits, the last sixteen decide
 last-decides : (line : List ℕ) → length line ≡ frameLength → T (allDigits (part 0 16 line)) → T (allDigits (part 16 16 line))
     → allDigits (part 28 16 line) ≡ allDigits line
@@ -29,14 +26,8 @@ last-decides line long first second = go (allDigits (part 28 16 line)) refl
 returns : tie.Need-returns
 returns c = sym (digits-lost 0 16 _ (sym (c .before .digits-at .ensures) ∙ not-true _ (c .if1 .taken)))
 
-digits-at-requires-2 : tie.Need-digits-at-requires-2
-digits-at-requires-2 c κs = search needs
-
 returns-2 : tie.Need-returns-2
 returns-2 c = sym (digits-lost 16 16 _ (sym (c .before .digits-at2 .ensures) ∙ not-true _ (c .if2 .taken)))
-
-digits-at-requires-3 : tie.Need-digits-at-requires-3
-digits-at-requires-3 c κs = search needs
 
 returns-3 : tie.Need-returns-3
 returns-3 c =
@@ -50,12 +41,4 @@ returns-3 c =
     (of-holds _ (sym (second .digits-at2 .ensures) ∙ not-false _ (c .before .if2 .left)))
 
 pub all-digits-spec : {M : Type 1} → statement M
-all-digits-spec =
-    tie.close
-    (tie.spec
-    digits-at-requires
-    returns
-    digits-at-requires-2
-    returns-2
-    digits-at-requires-3
-    returns-3)
+all-digits-spec = tie.close (tie.spec (λ c κs. search needs) returns (λ c κs. search needs) returns-2 (λ c κs. search needs) returns-3)

@@ -4,57 +4,6 @@ use borrow.Author.Needs.{needs}
 use Rattle.frame_text.proofs.by_number.Statement.{statement}
 use Rattle.frame_text.proofs.by_number.Tie as tie
 
-all-zero-requires : tie.Need-all-zero-requires
-all-zero-requires c κs = search needs
-
-open-call-requires : tie.Need-open-call-requires
-open-call-requires c κs = search needs
-
-made-if-requires : tie.Need-made-if-requires
-made-if-requires c κs = search needs
-
-lot-call-requires : tie.Need-lot-call-requires
-lot-call-requires c κs = search needs
-
-made-if-requires-2 : tie.Need-made-if-requires-2
-made-if-requires-2 c κs = search needs
-
-all-zero-requires-2 : tie.Need-all-zero-requires-2
-all-zero-requires-2 c κs = search needs
-
-made-if-requires-3 : tie.Need-made-if-requires-3
-made-if-requires-3 c κs = search needs
-
-all-zero-requires-3 : tie.Need-all-zero-requires-3
-all-zero-requires-3 c κs = search needs
-
-made-if-requires-4 : tie.Need-made-if-requires-4
-made-if-requires-4 c κs = search needs
-
-all-zero-requires-4 : tie.Need-all-zero-requires-4
-all-zero-requires-4 c κs = search needs
-
-made-if-requires-5 : tie.Need-made-if-requires-5
-made-if-requires-5 c κs = search needs
-
-all-zero-requires-5 : tie.Need-all-zero-requires-5
-all-zero-requires-5 c κs = search needs
-
-made-if-requires-6 : tie.Need-made-if-requires-6
-made-if-requires-6 c κs = search needs
-
-all-zero-requires-6 : tie.Need-all-zero-requires-6
-all-zero-requires-6 c κs = search needs
-
-made-if-requires-7 : tie.Need-made-if-requires-7
-made-if-requires-7 c κs = search needs
-
-all-zero-requires-7 : tie.Need-all-zero-requires-7
-all-zero-requires-7 c κs = search needs
-
-made-if-requires-8 : tie.Need-made-if-requires-8
-made-if-requires-8 c κs = search needs
-
 returns : tie.Need-returns
 unfolding numbered allZero
 returns c = rw (c .before .before .before .match .keys1, c .made-if .ensures, c .before .open-call .ensures, c .before .before .all-zero .ensures)
@@ -96,30 +45,7 @@ returns-9 c =
 pub by-number-spec : {M : Type 1} → statement M
 by-number-spec =
     tie.close
-    (tie.spec
-    all-zero-requires
-    open-call-requires
-    made-if-requires
-    lot-call-requires
-    made-if-requires-2
-    all-zero-requires-2
-    made-if-requires-3
-    all-zero-requires-3
-    made-if-requires-4
-    all-zero-requires-4
-    made-if-requires-5
-    all-zero-requires-5
-    made-if-requires-6
-    all-zero-requires-6
-    made-if-requires-7
-    all-zero-requires-7
-    made-if-requires-8
-    returns
-    returns-2
-    returns-3
-    returns-4
-    returns-5
-    returns-6
-    returns-7
-    returns-8
-    returns-9)
+    (tie.spec (λ c κs. search needs) (λ c κs. search needs) (λ c κs. search needs) (λ c κs. search needs) (λ c κs. search needs)
+    (λ c κs. search needs) (λ c κs. search needs) (λ c κs. search needs) (λ c κs. search needs) (λ c κs. search needs) (λ c κs. search needs)
+    (λ c κs. search needs) (λ c κs. search needs) (λ c κs. search needs) (λ c κs. search needs) (λ c κs. search needs) (λ c κs. search needs)
+    returns returns-2 returns-3 returns-4 returns-5 returns-6 returns-7 returns-8 returns-9)

@@ -73,14 +73,4 @@ returns c =
 pub digits-at-spec : {M : Type 1} → statement M
 digits-at-spec =
     tie.close
-    (tie.spec
-    Inv-loop
-    μ-loop
-    loop-holds
-    add-is-digit
-    shared-slice-read-is-digit
-    is-digit-requires
-    add-i
-    loop-less
-    loop-again
-    returns)
+    (tie.spec Inv-loop μ-loop loop-holds add-is-digit shared-slice-read-is-digit is-digit-requires add-i loop-less loop-again returns)

@@ -19,9 +19,6 @@ returns : tie.Need-returns
 unfolding frameOf
 returns c = simp (ne-eqb _ _ (c .if1 .taken))
 
-all-digits-requires : tie.Need-all-digits-requires
-all-digits-requires c κs = search needs
-
 returns-2 : tie.Need-returns-2
 unfolding frameOf
 returns-2 c = simp (eq-eqb _ _ (c .before .before .if1 .left), sym (c .before .all-digits .ensures) ∙ not-true _ (c .if2 .taken))
@@ -52,9 +49,6 @@ word-at-requires-5 c κs = ready (c .before .before .before .before) 28 (lit≤ 
 word-at-requires-6 : tie.Need-word-at-requires-6
 word-at-requires-6 c κs = ready (c .before .before .before .before .before) 36 (lit≤ tt)
 
-by-number-requires : tie.Need-by-number-requires
-by-number-requires c κs = search needs
-
 returns-3 : tie.Need-returns-3
 unfolding frameOf callNumber streamIn argument
 returns-3 c =
@@ -66,15 +60,5 @@ returns-3 c =
 pub parse-spec : {M : Type 1} → statement M
 parse-spec =
     tie.close
-    (tie.spec
-    returns
-    all-digits-requires
-    returns-2
-    word-at-requires
-    word-at-requires-2
-    word-at-requires-3
-    word-at-requires-4
-    word-at-requires-5
-    word-at-requires-6
-    by-number-requires
-    returns-3)
+    (tie.spec returns (λ c κs. search needs) returns-2 word-at-requires word-at-requires-2 word-at-requires-3 word-at-requires-4
+    word-at-requires-5 word-at-requires-6 (λ c κs. search needs) returns-3)

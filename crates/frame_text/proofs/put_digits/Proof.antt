@@ -66,9 +66,6 @@ loop-again c =
     let inv = c .before .before .loop .inv in
     (omega arith, (rw length-set (inv .1 .0), rw (c .digit-of .ensures) (digit-before _ _ _ _ (omega arith) (omega arith) ∙ inv .1 .1)))
 
-same-length : tie.Need-same-length Inv-loop μ-loop
-same-length c = search needs
-
 returns : tie.Need-returns Inv-loop μ-loop
 unfolding digitsOf
 returns c =
@@ -79,15 +76,4 @@ returns c =
 pub put-digits-spec : {M : Type 1} → statement M
 put-digits-spec =
     tie.close
-    (tie.spec
-    Inv-loop
-    μ-loop
-    loop-holds
-    sub-i
-    digit-of-requires
-    add-out
-    slice-write-out
-    loop-less
-    loop-again
-    same-length
-    returns)
+    (tie.spec Inv-loop μ-loop loop-holds sub-i digit-of-requires add-out slice-write-out loop-less loop-again (λ c. search needs) returns)

@@ -7,9 +7,6 @@ use borrow.Author.Needs.{needs}
 use Rattle.frame_text.proofs.word_at.Statement.{statement}
 use Rattle.frame_text.proofs.word_at.Tie as tie
 
-get-u64-requires : tie.Need-get-u64-requires
-get-u64-requires c κs = search needs
-
 -- digits have values below sixteen, so there is room for four bits more
 small-ones : (c : tie.After-get-u64) → onesIn (c .get-u64 .result) ≤ 0x0f0f_0f0f_0f0f_0f0f
 small-ones c =
@@ -51,15 +48,4 @@ returns c =
 pub word-at-spec : {M : Type 1} → statement M
 word-at-spec =
     tie.close
-    (tie.spec
-    get-u64-requires
-    mul-ones
-    add-ones
-    mul-twos
-    add-twos
-    mul-fours
-    add-fours
-    mul-result
-    add-result
-    cast-result
-    returns)
+    (tie.spec (λ c κs. search needs) mul-ones add-ones mul-twos add-twos mul-fours add-fours mul-result add-result cast-result returns)

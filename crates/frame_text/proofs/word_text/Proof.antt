@@ -46,17 +46,4 @@ returns : tie.Need-returns
 returns c = text-of (c .args .n) (c .fits .n .fits)
 
 pub word-text-spec : {M : Type 1} → statement M
-word-text-spec =
-    tie.close
-    (tie.spec
-    mul-fours
-    add-fours
-    mul-twos
-    add-twos
-    mul-ones
-    add-ones
-    add-letters
-    add-result
-    mul-result
-    add-result-2
-    returns)
+word-text-spec = tie.close (tie.spec mul-fours add-fours mul-twos add-twos mul-ones add-ones add-letters add-result mul-result add-result-2 returns)

@@ -5,24 +5,6 @@ use Rattle.frames.proofs.Laws.{fed-turn, failed-turn, last-turn}
 use Rattle.frames.proofs.answer.Statement.{statement}
 use Rattle.frames.proofs.answer.Tie as tie
 
-count-requires : tie.Need-count-requires
-count-requires c κs = search needs
-
-slice-aggregate-feed : tie.Need-slice-aggregate-feed
-slice-aggregate-feed c = search needs
-
-feed-requires : tie.Need-feed-requires
-feed-requires c κs = search needs
-
-same-length : tie.Need-same-length
-same-length c = search needs
-
-same-length-2 : tie.Need-same-length-2
-same-length-2 c = search needs
-
-same-length-3 : tie.Need-same-length-3
-same-length-3 c = search needs
-
 returns : tie.Need-returns
 returns c =
     let start = c .before .before .before .before .before .before .before .before .before .before .before .before .before .before .before .before .before in
@@ -34,18 +16,6 @@ returns-2 c =
     let start = c .before .before .before .before .before .before .before in
     (failed-turn _ _ _ _ _ _ _ _ _ (start .args .got) (start .fits .got) (c .if2 .taken) (record { sameStore = refl; nothing = refl; going = refl; whole = refl }), (start .pre .1, omega arith))
 
-finish-requires : tie.Need-finish-requires
-finish-requires c κs = search needs
-
-same-length-4 : tie.Need-same-length-4
-same-length-4 c = search needs
-
-same-length-5 : tie.Need-same-length-5
-same-length-5 c = search needs
-
-same-length-6 : tie.Need-same-length-6
-same-length-6 c = search needs
-
 returns-3 : tie.Need-returns-3
 returns-3 c =
     let start = c .before .before .before .before .before .before .before .before .before .before .before .before .before .before .before in
@@ -55,17 +25,5 @@ returns-3 c =
 pub answer-spec : {M : Type 1} → statement M
 answer-spec =
     tie.close
-    (tie.spec
-    count-requires
-    slice-aggregate-feed
-    feed-requires
-    same-length
-    same-length-2
-    same-length-3
-    returns
-    returns-2
-    finish-requires
-    same-length-4
-    same-length-5
-    same-length-6
-    returns-3)
+    (tie.spec (λ c κs. search needs) (λ c. search needs) (λ c κs. search needs) (λ c. search needs) (λ c. search needs) (λ c. search needs)
+    returns returns-2 (λ c κs. search needs) (λ c. search needs) (λ c. search needs) (λ c. search needs) returns-3)

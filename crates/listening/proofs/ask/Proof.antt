@@ -1,58 +1,45 @@
+-- Refused by what is seen of the stream, or by its own refusals; else the sample asked.
+use Rattle.listening.proofs.Looking.{look-refused, opened-in, on-kept}
+use Rattle.areas.proofs.OnReading.{read-plan, read-figures, read-count}
+use Rattle.areas.proofs.Outcomes.{ask-refused, asked, allowed-ask}
+use Rattle.model.specs.Calls.{refusalOf, refusals, firstOf, gives}
+use Prim.Native.Nat.{ℕ}
 use native.Mathlib.Omega.{arith}
-use Rattle.listening.proofs.Lending.{lent-from, by-refusal, by-look}
+use mathlib.Core.Path.{refl, sym, ap, _∙_}
 use borrow.Author.Needs.{needs}
 use Rattle.listening.proofs.ask.Statement.{statement}
 use Rattle.listening.proofs.ask.Tie as tie
 
-refusal-of-requires : tie.Need-refusal-of-requires
-refusal-of-requires c κs = search needs
-
-refused-requires : tie.Need-refused-requires
-refused-requires c κs = search needs
-
 returns : tie.Need-returns
-returns c = by-refusal _ _ _ (c .before .before .refusal-of .ensures) (c .before .if1 .taken) (c .refused .ensures)
-
-start-of-requires : tie.Need-start-of-requires
-start-of-requires c κs =
-    let called = c .before .before .before .args in
-    lent-from (called .store .now) (called .stream) (c .before .refusal-of .ensures) (c .if1 .left) .1
-
-add-end : tie.Need-add-end
-add-end c = search needs
-
-sub-ask : tie.Need-sub-ask
-sub-ask c = search needs
-
-part-ask-start : tie.Need-part-ask-start
-part-ask-start c = search needs
-
-part-ask-end : tie.Need-part-ask-end
-part-ask-end c =
-    let whole = c .before in
-    let called = whole .before .before .before .args in
-    omega (arith, c .start-of .ensures, lent-from (called .store .now) (called .stream) (whole .before .refusal-of .ensures) (whole .if1 .left))
-
-ask-requires : tie.Need-ask-requires
-ask-requires c κs = search needs
+unfolding refusalOf refusals firstOf
+returns c = look-refused _ _ _ _ (c .before .before .before .look .ensures) _ (λ z. refl) (c .before .if1 .taken) (c .refused .ensures)
 
 returns-2 : tie.Need-returns-2
 returns-2 c =
-    let started = c .before .before in
-    let whole = started .before in
-    by-look _ _ _ (whole .before .refusal-of .ensures) (whole .if1 .left) (started .start-of .ensures) (c .ask .ensures)
+    let refused = c .before .before in
+    let seen = refused .before .before .before in
+    let opened = opened-in _ _ _ _ (seen .before .before .look .ensures) (seen .if1 .left) in
+    on-kept _ _ (opened .whole) (opened .known) _ (ask-refused (opened .at) _ (refused .ask .ensures) (c .before .if2 .taken) (c .refused2 .ensures))
+
+sample-requires : tie.Need-sample-requires
+sample-requires c κs =
+    let refused = c .before in
+    let seen = refused .before .before .before in
+    let opened = opened-in _ _ _ _ (seen .before .before .look .ensures) (seen .if1 .left) in
+    let allowed = allowed-ask _ _ _ (sym (refused .ask .ensures) ∙ c .if2 .left) in
+    let within = read-figures (opened .at) in
+    (read-plan (opened .at), allowed .0, omega (arith, read-count (opened .at)), allowed .1, allowed .2)
+
+returns-3 : tie.Need-returns-3
+returns-3 c =
+    let refused = c .before .before .before in
+    let seen = refused .before .before .before in
+    let opened = opened-in _ _ _ _ (seen .before .before .look .ensures) (seen .if1 .left) in
+    let given = c .gives .ensures ∙ ap (λ (n : ℕ). gives n 0 0) (c .before .sample .ensures .0) in
+    on-kept _ _ (opened .whole) (opened .known) _ (asked (opened .at) _ (refused .ask .ensures) (c .before .before .if2 .left) given)
 
 pub ask-spec : {M : Type 1} → statement M
 ask-spec =
     tie.close
-    (tie.spec
-    refusal-of-requires
-    refused-requires
-    returns
-    start-of-requires
-    add-end
-    sub-ask
-    part-ask-start
-    part-ask-end
-    ask-requires
-    returns-2)
+    (tie.spec (λ c κs. search needs) (λ c κs. search needs) returns (λ c κs. search needs) (λ c κs. search needs) returns-2 sample-requires
+    (λ c κs. search needs) returns-3)

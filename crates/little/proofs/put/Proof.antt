@@ -48,9 +48,6 @@ loop-less c = omega arith
 loop-again : tie.Need-loop-again Inv-loop μ-loop
 loop-again c = (omega arith, (rw length-set (c .before .loop .inv .1 .0), less-left _ _ _ _ _ (omega arith) (omega arith) ∙ c .before .loop .inv .1 .1))
 
-same-length : tie.Need-same-length Inv-loop μ-loop
-same-length c = search needs
-
 returns : tie.Need-returns Inv-loop μ-loop
 unfolding bytes
 returns c =
@@ -59,17 +56,4 @@ returns c =
     sym (written-nil _ _) ∙ rw none at (at-loop .loop .inv .1 .1)
 
 pub put-spec : {M : Type 1} → statement M
-put-spec =
-    tie.close
-    (tie.spec
-    Inv-loop
-    μ-loop
-    loop-holds
-    cast-s
-    add-s
-    slice-write-s
-    add-i
-    loop-less
-    loop-again
-    same-length
-    returns)
+put-spec = tie.close (tie.spec Inv-loop μ-loop loop-holds cast-s add-s slice-write-s add-i loop-less loop-again (λ c. search needs) returns)

@@ -7,18 +7,8 @@ use Rattle.records.proofs.Laws.{record-at}
 use Rattle.records.proofs.get_record.Statement.{statement}
 use Rattle.records.proofs.get_record.Tie as tie
 
-mul-get-record-at : tie.Need-mul-get-record-at
-mul-get-record-at c = search needs
-
-add-get-record-at : tie.Need-add-get-record-at
-add-get-record-at c = search needs
-
-get-record-at-requires : tie.Need-get-record-at-requires
-get-record-at-requires c κs = search needs
-
 returns : tie.Need-returns
 returns c = c .get-record-at .ensures ∙ ap recordIn (sym (record-at _ _ (omega arith)))
 
 pub get-record-spec : {M : Type 1} → statement M
-get-record-spec =
-    tie.close (tie.spec mul-get-record-at add-get-record-at get-record-at-requires returns)
+get-record-spec = tie.close (tie.spec (λ c. search needs) (λ c. search needs) (λ c κs. search needs) returns)

@@ -10,9 +10,6 @@ use Rattle.records.proofs.Laws.{value-differs, byte-differs, part-of-va
 use Rattle.records.proofs.has_continuous.Statement.{statement}
 use Rattle.records.proofs.has_continuous.Tie as tie
 
-get-u32-requires : tie.Need-get-u32-requires
-get-u32-requires c κs = search needs
-
 returns : tie.Need-returns
 unfolding bytes part continuousBytes
 returns c =
@@ -20,22 +17,13 @@ returns c =
     value-differs 24 8 0 4 (args .state .count) (args .area .now) (continuousBytes (args .state)) (lit≤ tt) (omega (arith, c .before .struct-known .given)) refl
     (λ e. c .if1 .taken (c .before .before .get-u32 .ensures ∙ e))
 
-shared-slice-read-if2 : tie.Need-shared-slice-read-if2
-shared-slice-read-if2 c = search needs
-
 returns-2 : tie.Need-returns-2
 unfolding bytes continuousBytes
 returns-2 c = byte-differs 24 8 4 _ _ _ (lit< tt) refl (c .if2 .taken)
 
-shared-slice-read-if3 : tie.Need-shared-slice-read-if3
-shared-slice-read-if3 c = search needs
-
 returns-3 : tie.Need-returns-3
 unfolding bytes continuousBytes
 returns-3 c = byte-differs 24 8 5 _ _ _ (lit< tt) refl (c .if3 .taken)
-
-get-u16-requires : tie.Need-get-u16-requires
-get-u16-requires c κs = search needs
 
 returns-4 : tie.Need-returns-4
 unfolding bytes part continuousBytes
@@ -62,13 +50,5 @@ returns-5 c =
 pub has-continuous-spec : {M : Type 1} → statement M
 has-continuous-spec =
     tie.close
-    (tie.spec
-    get-u32-requires
-    returns
-    shared-slice-read-if2
-    returns-2
-    shared-slice-read-if3
-    returns-3
-    get-u16-requires
-    returns-4
+    (tie.spec (λ c κs. search needs) returns (λ c. search needs) returns-2 (λ c. search needs) returns-3 (λ c κs. search needs) returns-4
     returns-5)

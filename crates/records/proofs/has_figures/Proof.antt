@@ -19,17 +19,11 @@ use Rattle.records.proofs.has_figures.Tie as tie
 abbrev wanted : Figures → List ℕ
 wanted f = zeros 6 ++ figureBytes f
 
-get-u16-requires : tie.Need-get-u16-requires
-get-u16-requires c κs = search needs
-
 returns : tie.Need-returns
 unfolding bytes part figureBytes
 returns c =
     let args = c .before .before .before .before .before .before .args in
     value-differs 10 38 0 2 0 (args .area .now) (wanted (args .figures)) (lit≤ tt) (lit< tt) refl (λ e. c .if1 .taken (c .before .get-u16 .ensures ∙ e))
-
-get-u32-requires : tie.Need-get-u32-requires
-get-u32-requires c κs = search needs
 
 returns-2 : tie.Need-returns-2
 unfolding bytes part figureBytes
@@ -37,17 +31,11 @@ returns-2 c =
     let args = c .before .before .before .before .before .before .before .before .args in
     value-differs 10 38 2 4 0 (args .area .now) (wanted (args .figures)) (lit≤ tt) (lit< tt) refl (λ e. c .if2 .taken (c .before .get-u32 .ensures ∙ e))
 
-has-level-requires : tie.Need-has-level-requires
-has-level-requires c κs = search needs
-
 returns-3 : tie.Need-returns-3
 unfolding bytes part figureBytes levelBytes continuousBytes
 returns-3 c =
     let args = c .before .before .before .before .before .before .before .before .before .before .args in
     part-differs 10 38 6 8 (args .area .now) (wanted (args .figures)) (lit≤ tt) (decided-not (c .before .has-level .ensures) (not-true _ (c .if3 .taken)))
-
-has-continuous-requires : tie.Need-has-continuous-requires
-has-continuous-requires c κs = search needs
 
 returns-4 : tie.Need-returns-4
 unfolding bytes part figureBytes levelBytes continuousBytes
@@ -55,17 +43,11 @@ returns-4 c =
     let args = c .before .before .before .before .before .before .before .before .before .before .before .before .args in
     part-differs 10 38 14 8 (args .area .now) (wanted (args .figures)) (lit≤ tt) (decided-not (c .before .has-continuous .ensures) (not-true _ (c .if4 .taken)))
 
-get-u64-requires : tie.Need-get-u64-requires
-get-u64-requires c κs = search needs
-
 returns-5 : tie.Need-returns-5
 unfolding bytes part figureBytes
 returns-5 c =
     let args = c .before .before .before .before .before .before .before .before .before .before .before .before .before .before .before .args in
     value-differs 10 38 22 8 (args .figures .accepted) (args .area .now) (wanted (args .figures)) (lit≤ tt) (omega (arith, c .before .struct-known .given)) refl (λ e. c .if5 .taken (c .before .before .get-u64 .ensures ∙ e))
-
-get-u64-requires-2 : tie.Need-get-u64-requires-2
-get-u64-requires-2 c κs = search needs
 
 returns-6 : tie.Need-returns-6
 unfolding bytes part figureBytes
@@ -102,17 +84,5 @@ returns-7 c =
 pub has-figures-spec : {M : Type 1} → statement M
 has-figures-spec =
     tie.close
-    (tie.spec
-    get-u16-requires
-    returns
-    get-u32-requires
-    returns-2
-    has-level-requires
-    returns-3
-    has-continuous-requires
-    returns-4
-    get-u64-requires
-    returns-5
-    get-u64-requires-2
-    returns-6
-    returns-7)
+    (tie.spec (λ c κs. search needs) returns (λ c κs. search needs) returns-2 (λ c κs. search needs) returns-3 (λ c κs. search needs) returns-4
+    (λ c κs. search needs) returns-5 (λ c κs. search needs) returns-6 returns-7)

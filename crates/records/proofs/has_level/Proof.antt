@@ -10,9 +10,6 @@ use Rattle.records.proofs.Laws.{value-differs, byte-differs, part-of-va
 use Rattle.records.proofs.has_level.Statement.{statement}
 use Rattle.records.proofs.has_level.Tie as tie
 
-get-u32-requires : tie.Need-get-u32-requires
-get-u32-requires c κs = search needs
-
 returns : tie.Need-returns
 unfolding bytes part levelBytes
 returns c =
@@ -20,41 +17,17 @@ returns c =
     value-differs 16 8 0 4 (args .credit .0) (args .area .now) (levelBytes (args .credit .0) (args .state)) (lit≤ tt) (omega (arith, c .before .struct-known .given)) refl
     (λ e. c .if1 .taken (c .before .before .get-u32 .ensures ∙ e))
 
-shared-slice-read-wide : tie.Need-shared-slice-read-wide
-shared-slice-read-wide c = search needs
-
-wide-requires : tie.Need-wide-requires
-wide-requires c κs = search needs
-
 returns-2 : tie.Need-returns-2
 unfolding bytes levelBytes
 returns-2 c = byte-differs 16 8 4 _ _ _ (lit< tt) refl (λ e. c .if2 .taken (c .before .before .wide .ensures ∙ e))
-
-shared-slice-read-wide-2 : tie.Need-shared-slice-read-wide-2
-shared-slice-read-wide-2 c = search needs
-
-wide-requires-2 : tie.Need-wide-requires-2
-wide-requires-2 c κs = search needs
 
 returns-3 : tie.Need-returns-3
 unfolding bytes levelBytes
 returns-3 c = byte-differs 16 8 5 _ _ _ (lit< tt) refl (λ e. c .if3 .taken (c .before .before .wide2 .ensures ∙ e))
 
-shared-slice-read-wide-3 : tie.Need-shared-slice-read-wide-3
-shared-slice-read-wide-3 c = search needs
-
-wide-requires-3 : tie.Need-wide-requires-3
-wide-requires-3 c κs = search needs
-
 returns-4 : tie.Need-returns-4
 unfolding bytes levelBytes
 returns-4 c = byte-differs 16 8 6 _ _ _ (lit< tt) refl (λ e. c .if4 .taken (c .before .before .wide3 .ensures ∙ e))
-
-shared-slice-read-wide-4 : tie.Need-shared-slice-read-wide-4
-shared-slice-read-wide-4 c = search needs
-
-wide-requires-4 : tie.Need-wide-requires-4
-wide-requires-4 c κs = search needs
 
 returns-5 : tie.Need-returns-5
 unfolding bytes levelBytes
@@ -80,19 +53,5 @@ returns-6 c =
 pub has-level-spec : {M : Type 1} → statement M
 has-level-spec =
     tie.close
-    (tie.spec
-    get-u32-requires
-    returns
-    shared-slice-read-wide
-    wide-requires
-    returns-2
-    shared-slice-read-wide-2
-    wide-requires-2
-    returns-3
-    shared-slice-read-wide-3
-    wide-requires-3
-    returns-4
-    shared-slice-read-wide-4
-    wide-requires-4
-    returns-5
-    returns-6)
+    (tie.spec (λ c κs. search needs) returns (λ c. search needs) (λ c κs. search needs) returns-2 (λ c. search needs) (λ c κs. search needs)
+    returns-3 (λ c. search needs) (λ c κs. search needs) returns-4 (λ c. search needs) (λ c κs. search needs) returns-5 returns-6)

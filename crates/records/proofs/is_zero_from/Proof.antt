@@ -107,16 +107,5 @@ returns-2 c =
 pub is-zero-from-spec : {M : Type 1} → statement M
 is-zero-from-spec =
     tie.close
-    (tie.spec
-    Inv-loop
-    μ-loop
-    loop-holds
-    add-loop
-    add-is-zero-in
-    is-zero-in-requires
-    returns
-    add-at
-    loop-less
-    loop-again
-    is-zero-in-requires-2
+    (tie.spec Inv-loop μ-loop loop-holds add-loop add-is-zero-in is-zero-in-requires returns add-at loop-less loop-again is-zero-in-requires-2
     returns-2)

@@ -59,6 +59,4 @@ returns c =
     }
 
 pub is-zero-in-spec : {M : Type 1} → statement M
-is-zero-in-spec =
-    tie.close
-    (tie.spec Inv-loop μ-loop loop-holds shared-slice-read-bits add-i loop-less loop-again returns)
+is-zero-in-spec = tie.close (tie.spec Inv-loop μ-loop loop-holds shared-slice-read-bits add-i loop-less loop-again returns)

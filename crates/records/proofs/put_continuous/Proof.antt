@@ -10,15 +10,6 @@ use Rattle.records.proofs.Laws.{then-written, then-set, length-after}
 use Rattle.records.proofs.put_continuous.Statement.{statement}
 use Rattle.records.proofs.put_continuous.Tie as tie
 
-put-u32-requires : tie.Need-put-u32-requires
-put-u32-requires c κs = search needs
-
-slice-write-area : tie.Need-slice-write-area
-slice-write-area c = search needs
-
-slice-write-area-2 : tie.Need-slice-write-area-2
-slice-write-area-2 c = search needs
-
 put-u16-requires : tie.Need-put-u16-requires
 put-u16-requires c κs = simp length-set (omega arith)
 
@@ -35,12 +26,4 @@ unfolding bytes continuousBytes
 same-length c = length-after 24 _ _ (returns c) (omega arith)
 
 pub put-continuous-spec : {M : Type 1} → statement M
-put-continuous-spec =
-    tie.close
-    (tie.spec
-    put-u32-requires
-    slice-write-area
-    slice-write-area-2
-    put-u16-requires
-    same-length
-    returns)
+put-continuous-spec = tie.close (tie.spec (λ c κs. search needs) (λ c. search needs) (λ c. search needs) put-u16-requires same-length returns)

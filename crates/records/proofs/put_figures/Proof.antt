@@ -10,21 +10,6 @@ use Rattle.records.proofs.Laws.{then-written}
 use Rattle.records.proofs.put_figures.Statement.{statement}
 use Rattle.records.proofs.put_figures.Tie as tie
 
-put-level-requires : tie.Need-put-level-requires
-put-level-requires c κs = search needs
-
-put-continuous-requires : tie.Need-put-continuous-requires
-put-continuous-requires c κs = search needs
-
-put-u64-requires : tie.Need-put-u64-requires
-put-u64-requires c κs = search needs
-
-put-u64-requires-2 : tie.Need-put-u64-requires-2
-put-u64-requires-2 c κs = search needs
-
-same-length : tie.Need-same-length
-same-length c = search needs
-
 returns : tie.Need-returns
 unfolding bytes figureBytes levelBytes continuousBytes
 returns c =
@@ -39,10 +24,4 @@ returns c =
 pub put-figures-spec : {M : Type 1} → statement M
 put-figures-spec =
     tie.close
-    (tie.spec
-    put-level-requires
-    put-continuous-requires
-    put-u64-requires
-    put-u64-requires-2
-    same-length
-    returns)
+    (tie.spec (λ c κs. search needs) (λ c κs. search needs) (λ c κs. search needs) (λ c κs. search needs) (λ c. search needs) returns)

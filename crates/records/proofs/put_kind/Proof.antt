@@ -11,17 +11,8 @@ use lib.ListN.{length-set}
 use Rattle.records.proofs.put_kind.Statement.{statement}
 use Rattle.records.proofs.put_kind.Tie as tie
 
-slice-write-area : tie.Need-slice-write-area
-slice-write-area c = search needs
-
-add-area : tie.Need-add-area
-add-area c = search needs
-
 slice-write-area-2 : tie.Need-slice-write-area-2
 slice-write-area-2 c = simp length-set (omega arith)
-
-add-put-u16 : tie.Need-add-put-u16
-add-put-u16 c = search needs
 
 put-u16-requires : tie.Need-put-u16-requires
 put-u16-requires c κs = simp length-set (omega arith)
@@ -40,11 +31,4 @@ same-length c = length-after _ _ _ (returns c) (omega arith)
 pub put-kind-spec : {M : Type 1} → statement M
 put-kind-spec =
     tie.close
-    (tie.spec
-    slice-write-area
-    add-area
-    slice-write-area-2
-    add-put-u16
-    put-u16-requires
-    same-length
-    returns)
+    (tie.spec (λ c. search needs) (λ c. search needs) slice-write-area-2 (λ c. search needs) put-u16-requires same-length returns)

@@ -10,35 +10,11 @@ use Rattle.records.proofs.Laws.{then-set}
 use Rattle.records.proofs.put_level.Statement.{statement}
 use Rattle.records.proofs.put_level.Tie as tie
 
-put-u32-requires : tie.Need-put-u32-requires
-put-u32-requires c κs = search needs
-
-cast-area : tie.Need-cast-area
-cast-area c = search needs
-
-slice-write-area : tie.Need-slice-write-area
-slice-write-area c = search needs
-
-cast-area-2 : tie.Need-cast-area-2
-cast-area-2 c = search needs
-
-slice-write-area-2 : tie.Need-slice-write-area-2
-slice-write-area-2 c = search needs
-
-cast-area-3 : tie.Need-cast-area-3
-cast-area-3 c = search needs
-
 slice-write-area-3 : tie.Need-slice-write-area-3
 slice-write-area-3 c = simp length-set (omega arith)
 
-cast-area-4 : tie.Need-cast-area-4
-cast-area-4 c = search needs
-
 slice-write-area-4 : tie.Need-slice-write-area-4
 slice-write-area-4 c = simp length-set (omega arith)
-
-same-length : tie.Need-same-length
-same-length c = search needs
 
 returns : tie.Need-returns
 unfolding bytes levelBytes
@@ -52,15 +28,5 @@ returns c =
 pub put-level-spec : {M : Type 1} → statement M
 put-level-spec =
     tie.close
-    (tie.spec
-    put-u32-requires
-    cast-area
-    slice-write-area
-    cast-area-2
-    slice-write-area-2
-    cast-area-3
-    slice-write-area-3
-    cast-area-4
-    slice-write-area-4
-    same-length
-    returns)
+    (tie.spec (λ c κs. search needs) (λ c. search needs) (λ c. search needs) (λ c. search needs) (λ c. search needs) (λ c. search needs)
+    slice-write-area-3 (λ c. search needs) slice-write-area-4 (λ c. search needs) returns)

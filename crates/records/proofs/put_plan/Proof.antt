@@ -9,33 +9,6 @@ use Rattle.records.proofs.Laws.{then-written}
 use Rattle.records.proofs.put_plan.Statement.{statement}
 use Rattle.records.proofs.put_plan.Tie as tie
 
-cast-put-kind : tie.Need-cast-put-kind
-cast-put-kind c = search needs
-
-cast-put-kind-2 : tie.Need-cast-put-kind-2
-cast-put-kind-2 c = search needs
-
-put-kind-requires : tie.Need-put-kind-requires
-put-kind-requires c κs = search needs
-
-put-u32-requires : tie.Need-put-u32-requires
-put-u32-requires c κs = search needs
-
-cast-put-u16 : tie.Need-cast-put-u16
-cast-put-u16 c = search needs
-
-put-u16-requires : tie.Need-put-u16-requires
-put-u16-requires c κs = search needs
-
-put-u16-requires-2 : tie.Need-put-u16-requires-2
-put-u16-requires-2 c κs = search needs
-
-put-u32-requires-2 : tie.Need-put-u32-requires-2
-put-u32-requires-2 c κs = search needs
-
-same-length : tie.Need-same-length
-same-length c = search needs
-
 returns : tie.Need-returns
 unfolding bytes planBytes
 returns c =
@@ -52,14 +25,5 @@ returns c =
 pub put-plan-spec : {M : Type 1} → statement M
 put-plan-spec =
     tie.close
-    (tie.spec
-    cast-put-kind
-    cast-put-kind-2
-    put-kind-requires
-    put-u32-requires
-    cast-put-u16
-    put-u16-requires
-    put-u16-requires-2
-    put-u32-requires-2
-    same-length
-    returns)
+    (tie.spec (λ c. search needs) (λ c. search needs) (λ c κs. search needs) (λ c κs. search needs) (λ c. search needs) (λ c κs. search needs)
+    (λ c κs. search needs) (λ c κs. search needs) (λ c. search needs) returns)

@@ -5,25 +5,16 @@ use borrow.Author.Needs.{needs}
 use Rattle.replay.proofs.fits_header.Statement.{statement}
 use Rattle.replay.proofs.fits_header.Tie as tie
 
-has-figures-requires : tie.Need-has-figures-requires
-has-figures-requires c κs = search needs
-
 returns : tie.Need-returns
 returns c =
     let ready = c .before .before .before .pre in
     let none = c .before .if1 .taken in
     fits-stored _ _ _ _ _ (rw none at (ready .stood)) (rw none at (ready .brought)) (c .has-figures .ensures)
 
-replay-newest-requires : tie.Need-replay-newest-requires
-replay-newest-requires c κs = search needs
-
 returns-2 : tie.Need-returns-2
 returns-2 c =
     let all = c .before .before .replay-newest in
     fits-no-failed _ _ _ (sym (all .ensures .allStand) ∙ not-true (all .result .sound) (c .if2 .taken))
-
-has-figures-requires-2 : tie.Need-has-figures-requires-2
-has-figures-requires-2 c κs = search needs
 
 returns-3 : tie.Need-returns-3
 returns-3 c =
@@ -32,12 +23,4 @@ returns-3 c =
     fits-stored _ _ _ _ _ (sym (all .ensures .allStand) ∙ sound) (all .ensures .figuresAfter sound) (c .has-figures2 .ensures)
 
 pub fits-header-spec : {M : Type 1} → statement M
-fits-header-spec =
-    tie.close
-    (tie.spec
-    has-figures-requires
-    returns
-    replay-newest-requires
-    returns-2
-    has-figures-requires-2
-    returns-3)
+fits-header-spec = tie.close (tie.spec (λ c κs. search needs) returns (λ c κs. search needs) returns-2 (λ c κs. search needs) returns-3)

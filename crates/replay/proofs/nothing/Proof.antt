@@ -3,12 +3,9 @@ use borrow.Author.Needs.{needs}
 use Rattle.replay.proofs.nothing.Statement.{statement}
 use Rattle.replay.proofs.nothing.Tie as tie
 
-started-requires : tie.Need-started-requires
-started-requires c κs = search needs
-
 returns : tie.Need-returns
 unfolding nothingStands
 returns c = rw (c .started .ensures)
 
 pub nothing-spec : {M : Type 1} → statement M
-nothing-spec = tie.close (tie.spec started-requires returns)
+nothing-spec = tie.close (tie.spec (λ c κs. search needs) returns)

@@ -6,45 +6,21 @@ use borrow.Author.Needs.{needs}
 use Rattle.replay.proofs.read.Statement.{statement}
 use Rattle.replay.proofs.read.Tie as tie
 
-shared-slice-read-if1 : tie.Need-shared-slice-read-if1
-shared-slice-read-if1 c = search needs
-
-is-zero-from-requires : tie.Need-is-zero-from-requires
-is-zero-from-requires c κs = search needs
-
-nothing-requires : tie.Need-nothing-requires
-nothing-requires c κs = search needs
-
 returns : tie.Need-returns
 returns c =
     let tested = c .before .before in
-    c .nothing .ensures ∙ says-unopened _ _ _ (tested .before .before .before .pre) (tested .if1 .taken) (c .before .is-zero-from .ensures)
-
-get-plan-requires : tie.Need-get-plan-requires
-get-plan-requires c κs = search needs
-
-is-valid-requires : tie.Need-is-valid-requires
-is-valid-requires c κs = search needs
-
-nothing-requires-2 : tie.Need-nothing-requires-2
-nothing-requires-2 c κs = search needs
+    c .empty .ensures ∙ says-unopened _ _ _ (tested .before .before .before .pre) (tested .if1 .taken) (c .before .is-zero-from .ensures)
 
 returns-2 : tie.Need-returns-2
 returns-2 c =
     let test = c .before .before .is-valid in
     let read = c .before .before .before in
-    c .nothing2 .ensures
+    c .nothing .ensures
     ∙ says-invalid _ _ (read .before .if1 .left) _ _ (read .get-plan .ensures) (test .ensures) (not-true (test .result) (c .before .if2 .taken))
-
-get-count-requires : tie.Need-get-count-requires
-get-count-requires c κs = search needs
-
-nothing-requires-3 : tie.Need-nothing-requires-3
-nothing-requires-3 c κs = search needs
 
 returns-3 : tie.Need-returns-3
 returns-3 c =
-    c .nothing3 .ensures
+    c .nothing2 .ensures
     ∙ says-crowded _ _ (c .before .before .before .before .before .before .if1 .left) _ (c .before .before .get-count .ensures .0)
     (c .before .if3 .taken)
 
@@ -60,23 +36,8 @@ read-records-requires c κs =
       room = c .if3 .left;
     }
 
-returns-4 : tie.Need-returns-4
-returns-4 c = search needs
-
 pub read-spec : {M : Type 1} → statement M
 read-spec =
     tie.close
-    (tie.spec
-    shared-slice-read-if1
-    is-zero-from-requires
-    nothing-requires
-    returns
-    get-plan-requires
-    is-valid-requires
-    nothing-requires-2
-    returns-2
-    get-count-requires
-    nothing-requires-3
-    returns-3
-    read-records-requires
-    returns-4)
+    (tie.spec (λ c. search needs) (λ c κs. search needs) (λ c κs. search needs) returns (λ c κs. search needs) (λ c κs. search needs)
+    (λ c κs. search needs) returns-2 (λ c κs. search needs) (λ c κs. search needs) returns-3 read-records-requires (λ c. search needs))

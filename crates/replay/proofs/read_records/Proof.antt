@@ -8,12 +8,6 @@ use borrow.Author.Needs.{needs}
 use Rattle.replay.proofs.read_records.Statement.{statement}
 use Rattle.replay.proofs.read_records.Tie as tie
 
-without-requires : tie.Need-without-requires
-without-requires c κs = search needs
-
-started-requires : tie.Need-started-requires
-started-requires c κs = search needs
-
 replay-requires : tie.Need-replay-requires
 replay-requires c κs =
     let cut = c .before in
@@ -27,9 +21,6 @@ replay-requires c κs =
       brought = c .started .ensures ∙ sym (figures-none _ _);
     }
 
-nothing-requires : tie.Need-nothing-requires
-nothing-requires c κs = search needs
-
 returns : tie.Need-returns
 returns c =
     let replayed = c .before .before .before in
@@ -39,18 +30,6 @@ returns c =
     c .nothing .ensures
     ∙ says-failed (start .args .newest) (start .args .area .now) (start .args .plan) (start .args .count) (start .pre) (older .result) _
     (omega (arith, cut .without .ensures)) (older .ensures) (not-true (older .result .sound) (c .before .if1 .taken))
-
-mul-is-zero-from : tie.Need-mul-is-zero-from
-mul-is-zero-from c = search needs
-
-add-is-zero-from : tie.Need-add-is-zero-from
-add-is-zero-from c = search needs
-
-is-zero-from-requires : tie.Need-is-zero-from-requires
-is-zero-from-requires c κs = search needs
-
-nothing-requires-2 : tie.Need-nothing-requires-2
-nothing-requires-2 c κs = search needs
 
 returns-2 : tie.Need-returns-2
 returns-2 c =
@@ -77,9 +56,6 @@ fits-header-requires c κs =
       stood = sym (older .ensures .allStand) ∙ sound;
       brought = older .ensures .figuresAfter sound;
     }
-
-nothing-requires-3 : tie.Need-nothing-requires-3
-nothing-requires-3 c κs = search needs
 
 returns-3 : tie.Need-returns-3
 returns-3 c =
@@ -111,18 +87,5 @@ returns-4 c =
 pub read-records-spec : {M : Type 1} → statement M
 read-records-spec =
     tie.close
-    (tie.spec
-    without-requires
-    started-requires
-    replay-requires
-    nothing-requires
-    returns
-    mul-is-zero-from
-    add-is-zero-from
-    is-zero-from-requires
-    nothing-requires-2
-    returns-2
-    fits-header-requires
-    nothing-requires-3
-    returns-3
-    returns-4)
+    (tie.spec (λ c κs. search needs) (λ c κs. search needs) replay-requires (λ c κs. search needs) returns (λ c. search needs) (λ c. search needs)
+    (λ c κs. search needs) (λ c κs. search needs) returns-2 fits-header-requires (λ c κs. search needs) returns-3 returns-4)

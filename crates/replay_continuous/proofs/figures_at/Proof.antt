@@ -1,15 +1,12 @@
 use borrow.Author.Needs.{needs}
 use Rattle.model.specs.Figuring.{noLevel}
-use Rattle.replay_continuous.specs.Places.{figuresAt}
+use Rattle.replay_continuous.specs.Places.{figuresIn}
 use Rattle.replay_continuous.proofs.figures_at.Statement.{statement}
 use Rattle.replay_continuous.proofs.figures_at.Tie as tie
 
-state-of-requires : tie.Need-state-of-requires
-state-of-requires c κs = search needs
-
 returns : tie.Need-returns
-unfolding figuresAt noLevel
+unfolding figuresIn noLevel
 returns c = rw (c .state-of .ensures)
 
 pub figures-at-spec : {M : Type 1} → statement M
-figures-at-spec = tie.close (tie.spec state-of-requires returns)
+figures-at-spec = tie.close (tie.spec (λ c κs. search needs) returns)

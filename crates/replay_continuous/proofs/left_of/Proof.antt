@@ -9,12 +9,9 @@ returns : tie.Need-returns
 unfolding leftOf isSampling
 returns c = rw (eq-eqb _ _ (c .if1 .taken))
 
-sub-result : tie.Need-sub-result
-sub-result c = search needs
-
 returns-2 : tie.Need-returns-2
 unfolding leftOf isSampling
 returns-2 c = rw (ne-eqb _ _ (c .before .if1 .left))
 
 pub left-of-spec : {M : Type 1} → statement M
-left-of-spec = tie.close (tie.spec returns sub-result returns-2)
+left-of-spec = tie.close (tie.spec returns (λ c. search needs) returns-2)

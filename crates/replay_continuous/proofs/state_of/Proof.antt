@@ -5,22 +5,13 @@ use Rattle.replay_continuous.specs.Places.{stateOf}
 use Rattle.replay_continuous.proofs.state_of.Statement.{statement}
 use Rattle.replay_continuous.proofs.state_of.Tie as tie
 
-cast-t5 : tie.Need-cast-t5
-cast-t5 c = search needs
-
 returns : tie.Need-returns
 unfolding stateOf sampling
 returns c = rw (eq-eqb _ _ (c .if1 .taken))
-
-sub-screen : tie.Need-sub-screen
-sub-screen c = search needs
-
-screen-requires : tie.Need-screen-requires
-screen-requires c κs = search needs
 
 returns-2 : tie.Need-returns-2
 unfolding stateOf
 returns-2 c = rw (ne-eqb _ _ (c .before .if1 .left)) (c .screen .ensures)
 
 pub state-of-spec : {M : Type 1} → statement M
-state-of-spec = tie.close (tie.spec cast-t5 returns sub-screen screen-requires returns-2)
+state-of-spec = tie.close (tie.spec returns (λ c. search needs) (λ c κs. search needs) returns-2)

@@ -1,47 +1,25 @@
-use borrow.Author.Tests.{not-true, not-false}
-use Rattle.replay_level.specs.Carrying.{pastStop, stopStep}
+-- A discontinued stream refuses by 8; else the step's answer, whose numbers stand for the figures.
+use mathlib.Core.Path.{sym, _∙_}
 use borrow.Author.Needs.{needs}
+use Rattle.replaying.specs.Replaying.{unsoundAt}
+use Rattle.replay_level.proofs.Steps.{ended-tried, kept, running-from}
 use Rattle.replay_level.proofs.enter_stop.Statement.{statement}
 use Rattle.replay_level.proofs.enter_stop.Tie as tie
 
-get-record-requires : tie.Need-get-record-requires
-get-record-requires c κs = search needs
-
-head-of-requires : tie.Need-head-of-requires
-head-of-requires c κs = search needs
-
-is-stop-requires : tie.Need-is-stop-requires
-is-stop-requires c κs = search needs
-
 returns : tie.Need-returns
-unfolding stopStep
-returns c = rw (← c .before .before .before .get-record .ensures, ← c .before .is-stop .ensures, not-true (c .before .is-stop .result) (c .if1 .taken))
+unfolding unsoundAt
+returns c = ended-tried _ _ (c .before .before .pre .1) (sym (c .before .is-discontinued .ensures) ∙ c .if1 .taken) _
 
-cast-meet-stop : tie.Need-cast-meet-stop
-cast-meet-stop c = search needs
-
-meet-stop-requires : tie.Need-meet-stop-requires
-meet-stop-requires c κs = search needs
+step-stop-requires : tie.Need-step-stop-requires
+step-stop-requires c κs =
+    let tested = c .before .before in
+    let pre = tested .before .pre in
+    running-from _ _ (pre .1) _ (c .carried-from .ensures) (pre .0) (sym (tested .is-discontinued .ensures) ∙ c .before .if1 .left)
 
 returns-2 : tie.Need-returns-2
-unfolding stopStep pastStop
 returns-2 c =
-    let tested = c .before .before .before .before in
-    rw (
-      ← tested .before .before .get-record .ensures,
-      ← tested .is-stop .ensures,
-      not-false (tested .is-stop .result) (c .before .before .before .if1 .left),
-      c .meet-stop .ensures,
-    )
+    let pre = c .before .before .before .before .before .pre in
+    c .entered-as .ensures ∙ rw (kept _ _ (pre .1) _ (c .before .before .carried-from .ensures) (pre .0)) at (c .before .step-stop .ensures)
 
 pub enter-stop-spec : {M : Type 1} → statement M
-enter-stop-spec =
-    tie.close
-    (tie.spec
-    get-record-requires
-    head-of-requires
-    is-stop-requires
-    returns
-    cast-meet-stop
-    meet-stop-requires
-    returns-2)
+enter-stop-spec = tie.close (tie.spec (λ c κs. search needs) returns (λ c κs. search needs) step-stop-requires (λ c κs. search needs) returns-2)

@@ -4,12 +4,9 @@ use borrow.Author.Needs.{needs}
 use Rattle.replay_level.proofs.figures_of.Statement.{statement}
 use Rattle.replay_level.proofs.figures_of.Tie as tie
 
-screen-requires : tie.Need-screen-requires
-screen-requires c κs = search needs
-
 returns : tie.Need-returns
 unfolding figuresIn lotFigures
 returns c = rw (c .screen .ensures)
 
 pub figures-of-spec : {M : Type 1} → statement M
-figures-of-spec = tie.close (tie.spec screen-requires returns)
+figures-of-spec = tie.close (tie.spec (λ c κs. search needs) returns)

@@ -4,11 +4,8 @@ use Rattle.replaying.proofs.Heads.{head-read}
 use Rattle.replaying.proofs.head_at.Statement.{statement}
 use Rattle.replaying.proofs.head_at.Tie as tie
 
-get-u32-requires : tie.Need-get-u32-requires
-get-u32-requires c κs = search needs
-
 returns : tie.Need-returns
 returns c = c .get-u32 .ensures ∙ head-read _ _ (c .before .before .pre)
 
 pub head-at-spec : {M : Type 1} → statement M
-head-at-spec = tie.close (tie.spec get-u32-requires returns)
+head-at-spec = tie.close (tie.spec (λ c κs. search needs) returns)

@@ -3,21 +3,6 @@ use Rattle.replaying.proofs.Heads.{faultless-read}
 use Rattle.replaying.proofs.is_faultless.Statement.{statement}
 use Rattle.replaying.proofs.is_faultless.Tie as tie
 
-head-at-requires : tie.Need-head-at-requires
-head-at-requires c κs = search needs
-
-cast-head : tie.Need-cast-head
-cast-head c = search needs
-
-add-get-u64 : tie.Need-add-get-u64
-add-get-u64 c = search needs
-
-get-u64-requires : tie.Need-get-u64-requires
-get-u64-requires c κs = search needs
-
-cast-result : tie.Need-cast-result
-cast-result c = search needs
-
 returns : tie.Need-returns
 returns c =
     let head = c .before in
@@ -26,4 +11,4 @@ returns c =
 pub is-faultless-spec : {M : Type 1} → statement M
 is-faultless-spec =
     tie.close
-    (tie.spec head-at-requires cast-head add-get-u64 get-u64-requires cast-result returns)
+    (tie.spec (λ c κs. search needs) (λ c. search needs) (λ c. search needs) (λ c κs. search needs) (λ c. search needs) returns)

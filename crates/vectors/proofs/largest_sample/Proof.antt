@@ -49,18 +49,5 @@ returns c = omega arith
 pub largest-sample-spec : {M : Type 1} → statement M
 largest-sample-spec =
     tie.close
-    (tie.spec
-    Inv-loop
-    μ-loop
-    sample-requires
-    loop-holds
-    sub-t10
-    sample-requires-2
-    sub-size
-    loop-less
-    loop-again
-    number-requires
-    number-requires-2
-    sub-last-number
-    last-number-requires
-    returns)
+    (tie.spec Inv-loop μ-loop sample-requires loop-holds sub-t10 sample-requires-2 sub-size loop-less loop-again number-requires number-requires-2
+    sub-last-number last-number-requires returns)

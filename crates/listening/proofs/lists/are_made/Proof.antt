@@ -31,9 +31,6 @@ returns c =
     not-all (start .calls .now) (turn .loop .i) (start .count) (omega arith)
     (sym (c .before .is-made .ensures ∙ ap isMade (c .before .before .frame-at .ensures)) ∙ not-true _ (c .if1 .taken))
 
-add-i : tie.Need-add-i Inv-loop μ-loop
-add-i c = search needs
-
 loop-less : tie.Need-loop-less Inv-loop μ-loop
 loop-less c = omega arith
 
@@ -48,14 +45,4 @@ returns-2 c = let all : c .before .loop .i ≡ c .before .before .before .args .
 pub are-made-spec : {M : Type 1} → statement M
 are-made-spec =
     tie.close
-    (tie.spec
-    Inv-loop
-    μ-loop
-    loop-holds
-    frame-at-requires
-    is-made-requires
-    returns
-    add-i
-    loop-less
-    loop-again
-    returns-2)
+    (tie.spec Inv-loop μ-loop loop-holds frame-at-requires is-made-requires returns (λ c. search needs) loop-less loop-again returns-2)

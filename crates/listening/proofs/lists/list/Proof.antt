@@ -7,20 +7,11 @@ use borrow.Author.Needs.{needs}
 use Rattle.listening.proofs.lists.list.Statement.{statement}
 use Rattle.listening.proofs.lists.list.Tie as tie
 
-mul-if1 : tie.Need-mul-if1
-mul-if1 c = search needs
-
 returns : tie.Need-returns
 returns c = list-refused (odd-numbers _ _ (c .if1 .taken))
 
-mul-if2 : tie.Need-mul-if2
-mul-if2 c = search needs
-
 returns-2 : tie.Need-returns-2
 returns-2 c = list-refused (other-room _ _ (c .before .if1 .left) (c .if2 .taken))
-
-are-made-requires : tie.Need-are-made-requires
-are-made-requires c κs = search needs
 
 returns-3 : tie.Need-returns-3
 returns-3 c =
@@ -32,12 +23,6 @@ make-all-requires : tie.Need-make-all-requires
 make-all-requires c κs =
     let looked = c .before .before .before in
     (omega arith, looked .before .if2 .left, sym (looked .are-made .ensures) ∙ not-false _ (c .before .before .if3 .left))
-
-same-length : tie.Need-same-length
-same-length c = search needs
-
-same-length-2 : tie.Need-same-length-2
-same-length-2 c = search needs
 
 returns-4 : tie.Need-returns-4
 unfolding callsIn
@@ -56,14 +41,5 @@ returns-4 c =
 pub list-spec : {M : Type 1} → statement M
 list-spec =
     tie.close
-    (tie.spec
-    mul-if1
-    returns
-    mul-if2
-    returns-2
-    are-made-requires
-    returns-3
-    make-all-requires
-    same-length
-    same-length-2
-    returns-4)
+    (tie.spec (λ c. search needs) returns (λ c. search needs) returns-2 (λ c κs. search needs) returns-3 make-all-requires (λ c. search needs)
+    (λ c. search needs) returns-4)

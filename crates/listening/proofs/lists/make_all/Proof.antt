@@ -22,9 +22,6 @@ loop-holds c = let none = none-made (c .before .before .before .args .store .now
 make-one-requires : tie.Need-make-one-requires Inv-loop μ-loop
 make-one-requires c κs = omega arith
 
-add-i : tie.Need-add-i Inv-loop μ-loop
-add-i c = search needs
-
 loop-less : tie.Need-loop-less Inv-loop μ-loop
 loop-less c = omega arith
 
@@ -57,14 +54,4 @@ returns c =
 pub make-all-spec : {M : Type 1} → statement M
 make-all-spec =
     tie.close
-    (tie.spec
-    Inv-loop
-    μ-loop
-    loop-holds
-    make-one-requires
-    add-i
-    loop-less
-    loop-again
-    same-length
-    same-length-2
-    returns)
+    (tie.spec Inv-loop μ-loop loop-holds make-one-requires (λ c. search needs) loop-less loop-again same-length same-length-2 returns)

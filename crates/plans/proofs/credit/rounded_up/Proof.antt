@@ -6,15 +6,6 @@ use borrow.Author.Needs.{needs}
 use Rattle.plans.proofs.credit.rounded_up.Statement.{statement}
 use Rattle.plans.proofs.credit.rounded_up.Tie as tie
 
-rem-if1 : tie.Need-rem-if1
-rem-if1 c = search needs
-
-div-result : tie.Need-div-result
-div-result c = search needs
-
-div-result-2 : tie.Need-div-result-2
-div-result-2 c = search needs
-
 add-result : tie.Need-add-result
 add-result c = omega (arith, div-le-self (c .before .args .a) (c .before .args .b))
 
@@ -27,4 +18,4 @@ unfolding roundedUp
 returns-2 c = simp (ne-eqb _ _ (c .if1 .left))
 
 pub rounded-up-spec : {M : Type 1} → statement M
-rounded-up-spec = tie.close (tie.spec rem-if1 div-result div-result-2 add-result returns returns-2)
+rounded-up-spec = tie.close (tie.spec (λ c. search needs) (λ c. search needs) (λ c. search needs) add-result returns returns-2)

@@ -4,15 +4,6 @@ use borrow.Author.Needs.{needs}
 use Rattle.plans.proofs.level.shift_in.Statement.{statement}
 use Rattle.plans.proofs.level.shift_in.Tie as tie
 
-mul-result : tie.Need-mul-result
-mul-result c = search needs
-
-add-result : tie.Need-add-result
-add-result c = search needs
-
-mul-result-2 : tie.Need-mul-result-2
-mul-result-2 c = search needs
-
 returns : tie.Need-returns
 unfolding shifted
 returns c = (simp (c .if1 .taken) (omega arith), omega arith)
@@ -22,4 +13,4 @@ unfolding shifted
 returns-2 c = (simp (c .if1 .left) (omega arith), omega arith)
 
 pub shift-in-spec : {M : Type 1} → statement M
-shift-in-spec = tie.close (tie.spec mul-result add-result mul-result-2 returns returns-2)
+shift-in-spec = tie.close (tie.spec (λ c. search needs) (λ c. search needs) (λ c. search needs) returns returns-2)

@@ -6,15 +6,6 @@ use borrow.Author.Needs.{needs}
 use Rattle.plans.proofs.tables.column.Statement.{statement}
 use Rattle.plans.proofs.tables.column.Tie as tie
 
-sub-result : tie.Need-sub-result
-sub-result c = search needs
-
-sub-result-2 : tie.Need-sub-result-2
-sub-result-2 c = search needs
-
-sub-result-3 : tie.Need-sub-result-3
-sub-result-3 c = search needs
-
 returns : tie.Need-returns
 unfolding columnAt
 returns c = simp (eq-eqb _ _ (c .if1 .taken)) (refl, omega arith)
@@ -28,4 +19,4 @@ unfolding columnAt
 returns-3 c = simp (ne-eqb _ _ (c .before .if1 .left), ne-eqb _ _ (c .if2 .left)) (refl, omega arith)
 
 pub column-spec : {M : Type 1} → statement M
-column-spec = tie.close (tie.spec sub-result sub-result-2 sub-result-3 returns returns-2 returns-3)
+column-spec = tie.close (tie.spec (λ c. search needs) (λ c. search needs) (λ c. search needs) returns returns-2 returns-3)

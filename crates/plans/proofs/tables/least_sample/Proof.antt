@@ -43,5 +43,4 @@ returns-7 c =
     rw (seventh _ past (c .before .pre .1) (none .0 .0 .1) (none .0 .1) (none .1)) refl
 
 pub least-sample-spec : {M : Type 1} → statement M
-least-sample-spec =
-    tie.close (tie.spec returns returns-2 returns-3 returns-4 returns-5 returns-6 returns-7)
+least-sample-spec = tie.close (tie.spec returns returns-2 returns-3 returns-4 returns-5 returns-6 returns-7)

@@ -56,16 +56,4 @@ returns-12 c = sym (row-found 10 (c .before .before .before .before .before .bef
 pub letters-spec : {M : Type 1} → statement M
 letters-spec =
     tie.close
-    (tie.spec
-    returns
-    returns-2
-    returns-3
-    returns-4
-    returns-5
-    returns-6
-    returns-7
-    returns-8
-    returns-9
-    returns-10
-    returns-11
-    returns-12)
+    (tie.spec returns returns-2 returns-3 returns-4 returns-5 returns-6 returns-7 returns-8 returns-9 returns-10 returns-11 returns-12)

@@ -4,24 +4,6 @@ use borrow.Author.Needs.{needs}
 use Rattle.plans.proofs.tables.sample_size.Statement.{statement}
 use Rattle.plans.proofs.tables.sample_size.Tie as tie
 
-code-letter-requires : tie.Need-code-letter-requires
-code-letter-requires c κs = search needs
-
-column-requires : tie.Need-column-requires
-column-requires c κs = search needs
-
-mul-tabled : tie.Need-mul-tabled
-mul-tabled c = search needs
-
-mul-tabled-2 : tie.Need-mul-tabled-2
-mul-tabled-2 c = search needs
-
-index-1-tabled : tie.Need-index-1-tabled
-index-1-tabled c = search needs
-
-index-2-tabled : tie.Need-index-2-tabled
-index-2-tabled c = search needs
-
 returns : tie.Need-returns
 unfolding table2 tabled levelSample
 returns c = rw (← c .before .before .before .code-letter .ensures .0, ← c .before .before .column .ensures .0) (omega arith)
@@ -33,12 +15,5 @@ returns-2 c = rw (← c .before .before .before .code-letter .ensures .0, ← c 
 pub sample-size-spec : {M : Type 1} → statement M
 sample-size-spec =
     tie.close
-    (tie.spec
-    code-letter-requires
-    column-requires
-    mul-tabled
-    mul-tabled-2
-    index-1-tabled
-    index-2-tabled
-    returns
-    returns-2)
+    (tie.spec (λ c κs. search needs) (λ c κs. search needs) (λ c. search needs) (λ c. search needs) (λ c. search needs) (λ c. search needs)
+    returns returns-2)

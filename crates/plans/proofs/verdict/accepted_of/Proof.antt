@@ -4,9 +4,6 @@ use borrow.Author.Needs.{needs}
 use Rattle.plans.proofs.verdict.accepted_of.Statement.{statement}
 use Rattle.plans.proofs.verdict.accepted_of.Tie as tie
 
-sub-result : tie.Need-sub-result
-sub-result c = search needs
-
 returns : tie.Need-returns
 unfolding acceptedOf
 returns c = simp (eq-eqb _ _ (c .if1 .taken))
@@ -20,4 +17,4 @@ unfolding acceptedOf
 returns-3 c = simp (ne-eqb _ _ (c .before .if1 .left), ne-eqb _ _ (c .if2 .left))
 
 pub accepted-of-spec : {M : Type 1} → statement M
-accepted-of-spec = tie.close (tie.spec sub-result returns returns-2 returns-3)
+accepted-of-spec = tie.close (tie.spec (λ c. search needs) returns returns-2 returns-3)

@@ -6,18 +6,9 @@ use borrow.Author.Needs.{needs}
 use Rattle.rules.proofs.answering.read_figure.Statement.{statement}
 use Rattle.rules.proofs.answering.read_figure.Tie as tie
 
-lot-figure-requires : tie.Need-lot-figure-requires
-lot-figure-requires c κs = search needs
-
 returns : tie.Need-returns
 unfolding readFigure isContinuous isSampling
 returns c = simp (ne-eqb _ _ (c .before .if1 .taken)) (c .lot-figure .ensures)
-
-cast-result : tie.Need-cast-result
-cast-result c = search needs
-
-add-result : tie.Need-add-result
-add-result c = search needs
 
 returns-2 : tie.Need-returns-2
 unfolding readFigure isContinuous isSampling
@@ -28,5 +19,4 @@ unfolding readFigure isContinuous isSampling
 returns-3 c = simp (eq-eqb _ _ (c .before .before .before .if1 .left), ne-eqb _ _ (c .if2 .left))
 
 pub read-figure-spec : {M : Type 1} → statement M
-read-figure-spec =
-    tie.close (tie.spec lot-figure-requires returns cast-result add-result returns-2 returns-3)
+read-figure-spec = tie.close (tie.spec (λ c κs. search needs) returns (λ c. search needs) (λ c. search needs) returns-2 returns-3)

@@ -4,9 +4,6 @@ use borrow.Author.Needs.{needs}
 use Rattle.rules.proofs.plan.is_for_lots.Statement.{statement}
 use Rattle.rules.proofs.plan.is_for_lots.Tie as tie
 
-within-requires : tie.Need-within-requires
-within-requires c κs = search needs
-
 returns : tie.Need-returns
 returns c = simp (← c .before .within .ensures, not-true (c .before .within .result) (c .if1 .taken))
 
@@ -17,4 +14,4 @@ returns-3 : tie.Need-returns-3
 returns-3 c = simp (← c .before .before .before .before .within .ensures, not-false (c .before .before .before .before .within .result) (c .before .before .before .if1 .left), eq-eqb _ _ (c .before .if2 .left))
 
 pub is-for-lots-spec : {M : Type 1} → statement M
-is-for-lots-spec = tie.close (tie.spec within-requires returns returns-2 returns-3)
+is-for-lots-spec = tie.close (tie.spec (λ c κs. search needs) returns returns-2 returns-3)

@@ -4,22 +4,13 @@ use borrow.Author.Needs.{needs}
 use Rattle.rules.proofs.plan.is_valid.Statement.{statement}
 use Rattle.rules.proofs.plan.is_valid.Tie as tie
 
-is-for-lots-requires : tie.Need-is-for-lots-requires
-is-for-lots-requires c κs = search needs
-
 returns : tie.Need-returns
 unfolding isCredit isLevel isContinuous validPlan
 returns c = simp (eq-eqb _ _ (c .before .if1 .taken)) (c .is-for-lots .ensures)
 
-is-for-lots-requires-2 : tie.Need-is-for-lots-requires-2
-is-for-lots-requires-2 c κs = search needs
-
 returns-2 : tie.Need-returns-2
 unfolding isCredit isLevel isContinuous validPlan
 returns-2 c = simp (ne-eqb _ _ (c .before .before .if1 .left), eq-eqb _ _ (c .before .if2 .taken)) (c .is-for-lots2 .ensures)
-
-is-for-blocks-requires : tie.Need-is-for-blocks-requires
-is-for-blocks-requires c κs = search needs
 
 returns-3 : tie.Need-returns-3
 unfolding isCredit isLevel isContinuous validPlan
@@ -30,13 +21,4 @@ unfolding isCredit isLevel isContinuous validPlan
 returns-4 c = simp (ne-eqb _ _ (c .before .before .if1 .left), ne-eqb _ _ (c .before .if2 .left), ne-eqb _ _ (c .if3 .left))
 
 pub is-valid-spec : {M : Type 1} → statement M
-is-valid-spec =
-    tie.close
-    (tie.spec
-    is-for-lots-requires
-    returns
-    is-for-lots-requires-2
-    returns-2
-    is-for-blocks-requires
-    returns-3
-    returns-4)
+is-valid-spec = tie.close (tie.spec (λ c κs. search needs) returns (λ c κs. search needs) returns-2 (λ c κs. search needs) returns-3 returns-4)

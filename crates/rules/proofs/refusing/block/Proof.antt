@@ -1,38 +1,43 @@
-use Rattle.plans.specs.Continuous.{isSampling}
-use Rattle.model.specs.Stations.{isContinuous, within}
+-- Each test in turn; where none applies, the last refusal decides.
+use Rattle.rules.proofs.UpToLast.{last-alone}
+use Rattle.model.specs.Stations.{isContinuous}
 use Rattle.model.specs.Calls.{firstOf, entryRefusals, isFull}
-use borrow.Author.Tests.{eq-eqb, ne-eqb, lt-ltb, le-ltb, le-leb, lt-leb}
+use mathlib.Core.Bool.{not}
+use Rattle.plans.specs.Continuous.{isSampling}
+use native.Mathlib.Omega.{arith}
+use borrow.Author.Tests.{eq-eqb, ne-eqb, lt-ltb, le-ltb, le-leb, lt-leb, not-true, not-false}
+use borrow.Author.Needs.{needs}
 use Rattle.rules.proofs.refusing.block.Statement.{statement}
 use Rattle.rules.proofs.refusing.block.Tie as tie
 
 returns : tie.Need-returns
-unfolding firstOf entryRefusals isFull isContinuous within isSampling
-returns c = simp (ne-eqb _ _ (c .if1 .taken))
+unfolding firstOf entryRefusals isContinuous
+returns c = λ f. simp (ne-eqb _ _ (c .if1 .taken))
 
 returns-2 : tie.Need-returns-2
-unfolding firstOf entryRefusals isFull isContinuous within isSampling
-returns-2 c = simp (eq-eqb _ _ (c .before .if1 .left), le-leb _ _ (c .if2 .taken))
+unfolding firstOf entryRefusals isContinuous isFull
+returns-2 c = λ f. simp (eq-eqb _ _ (c .before .if1 .left), le-leb _ _ (c .if2 .taken))
 
 returns-3 : tie.Need-returns-3
-unfolding firstOf entryRefusals isFull isContinuous within isSampling
-returns-3 c = simp (eq-eqb _ _ (c .before .before .if1 .left), lt-leb _ _ (c .before .if2 .left), lt-leb _ _ (c .if3 .taken))
+unfolding firstOf entryRefusals isContinuous isFull
+returns-3 c = λ f.
+    let room = c .before .before in
+    simp (eq-eqb _ _ (room .before .if1 .left), lt-leb _ _ (room .if2 .left), ← c .before .within .ensures, not-true (c .before .within .result) (c .if3 .taken))
 
 returns-4 : tie.Need-returns-4
-unfolding firstOf entryRefusals isFull isContinuous within isSampling
-returns-4 c = simp (eq-eqb _ _ (c .before .before .before .before .if1 .left), lt-leb _ _ (c .before .before .before .if2 .left), le-leb _ _ (c .before .before .if3 .left), lt-leb _ _ (c .if4 .taken))
+unfolding firstOf entryRefusals isContinuous isFull
+returns-4 c = λ f.
+    let heard = c .before in
+    let room = heard .before .before in
+    simp (eq-eqb _ _ (room .before .if1 .left), lt-leb _ _ (room .if2 .left), ← heard .before .within .ensures, not-false (heard .before .within .result) (heard .if3 .left), lt-ltb _ _ (c .if4 .taken))
 
 returns-5 : tie.Need-returns-5
-unfolding firstOf entryRefusals isFull isContinuous within isSampling
-returns-5 c = simp (eq-eqb _ _ (c .before .before .before .before .before .if1 .left), lt-leb _ _ (c .before .before .before .before .if2 .left), le-leb _ _ (c .before .before .before .if3 .left), le-leb _ _ (c .before .if4 .left), lt-ltb _ _ (c .if5 .taken))
-
-returns-6 : tie.Need-returns-6
-unfolding firstOf entryRefusals isFull isContinuous within isSampling
-returns-6 c = simp (eq-eqb _ _ (c .before .before .before .before .before .before .before .before .if1 .left), lt-leb _ _ (c .before .before .before .before .before .before .before .if2 .left), le-leb _ _ (c .before .before .before .before .before .before .if3 .left), le-leb _ _ (c .before .before .before .before .if4 .left), le-ltb _ _ (c .before .before .before .if5 .left), ne-eqb _ _ (c .if6 .taken))
-
-returns-7 : tie.Need-returns-7
-unfolding firstOf entryRefusals isFull isContinuous within isSampling
-returns-7 c = simp (eq-eqb _ _ (c .before .before .before .before .before .before .before .before .if1 .left), lt-leb _ _ (c .before .before .before .before .before .before .before .if2 .left), le-leb _ _ (c .before .before .before .before .before .before .if3 .left), le-leb _ _ (c .before .before .before .before .if4 .left), le-ltb _ _ (c .before .before .before .if5 .left), eq-eqb _ _ (c .if6 .left))
+unfolding firstOf entryRefusals isContinuous isFull
+returns-5 c = λ f.
+    let heard = c .before in
+    let room = heard .before .before in
+    last-alone _ f _ _ 14 (not (isSampling (f .continuous))) (omega arith)
+    (simp (eq-eqb _ _ (room .before .if1 .left), lt-leb _ _ (room .if2 .left), ← heard .before .within .ensures, not-false (heard .before .within .result) (heard .if3 .left), le-ltb _ _ (c .if4 .left)))
 
 pub block-spec : {M : Type 1} → statement M
-block-spec =
-    tie.close (tie.spec returns returns-2 returns-3 returns-4 returns-5 returns-6 returns-7)
+block-spec = tie.close (tie.spec returns returns-2 (λ c κs. search needs) returns-3 returns-4 returns-5)

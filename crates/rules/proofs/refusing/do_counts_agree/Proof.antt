@@ -8,12 +8,6 @@ returns : tie.Need-returns
 unfolding countsAgree
 returns c = simp (lt-leb _ _ (c .if1 .taken))
 
-is-none-missed-requires : tie.Need-is-none-missed-requires
-is-none-missed-requires c κs = search needs
-
-is-by-verdict-requires : tie.Need-is-by-verdict-requires
-is-by-verdict-requires c κs = search needs
-
 returns-2 : tie.Need-returns-2
 unfolding countsAgree
 returns-2 c = simp (le-leb _ _ (c .before .before .before .if1 .left), ← c .before .before .is-none-missed .ensures, c .before .if2 .taken, ← c .is-by-verdict .ensures)
@@ -23,5 +17,4 @@ unfolding countsAgree
 returns-3 c = simp (le-leb _ _ (c .before .before .if1 .left), ← c .before .is-none-missed .ensures, c .if2 .left)
 
 pub do-counts-agree-spec : {M : Type 1} → statement M
-do-counts-agree-spec =
-    tie.close (tie.spec returns is-none-missed-requires is-by-verdict-requires returns-2 returns-3)
+do-counts-agree-spec = tie.close (tie.spec returns (λ c κs. search needs) (λ c κs. search needs) returns-2 returns-3)

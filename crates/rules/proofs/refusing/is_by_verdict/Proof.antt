@@ -4,15 +4,6 @@ use borrow.Author.Needs.{needs}
 use Rattle.rules.proofs.refusing.is_by_verdict.Statement.{statement}
 use Rattle.rules.proofs.refusing.is_by_verdict.Tie as tie
 
-sub-within : tie.Need-sub-within
-sub-within c = search needs
-
-add-within : tie.Need-add-within
-add-within c = search needs
-
-within-requires : tie.Need-within-requires
-within-requires c κs = search needs
-
 returns : tie.Need-returns
 returns c = simp (c .before .if1 .taken, ← c .within .ensures, and-true)
 
@@ -23,5 +14,4 @@ returns-3 : tie.Need-returns-3
 returns-3 c = simp (ne-eqb _ _ (c .before .if1 .left), ne-eqb _ _ (c .if2 .left))
 
 pub is-by-verdict-spec : {M : Type 1} → statement M
-is-by-verdict-spec =
-    tie.close (tie.spec sub-within add-within within-requires returns returns-2 returns-3)
+is-by-verdict-spec = tie.close (tie.spec (λ c. search needs) (λ c. search needs) (λ c κs. search needs) returns returns-2 returns-3)

@@ -5,15 +5,9 @@ use borrow.Author.Needs.{needs}
 use Rattle.plans.proofs.continuous.Continuous.stop.Statement.{statement}
 use Rattle.plans.proofs.continuous.Continuous.stop.Tie as tie
 
-screen-requires : tie.Need-screen-requires
-screen-requires c κs = search needs
-
 returns : tie.Need-returns
 unfolding afterStop isSampling setUpChanged longStop
 returns c = simp (eq-eqb _ _ (c .before .if1 .taken)) (c .screen .ensures)
-
-screen-requires-2 : tie.Need-screen-requires-2
-screen-requires-2 c κs = search needs
 
 returns-2 : tie.Need-returns-2
 unfolding afterStop isSampling setUpChanged longStop
@@ -28,5 +22,4 @@ unfolding afterStop isSampling setUpChanged longStop
 returns-4 c = simp (ne-eqb _ _ (c .before .before .if1 .left), ne-eqb _ _ (c .if2 .left))
 
 pub stop-spec : {M : Type 1} → statement M
-stop-spec =
-    tie.close (tie.spec screen-requires returns screen-requires-2 returns-2 returns-3 returns-4)
+stop-spec = tie.close (tie.spec (λ c κs. search needs) returns (λ c κs. search needs) returns-2 returns-3 returns-4)

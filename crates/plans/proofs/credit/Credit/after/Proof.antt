@@ -4,9 +4,6 @@ use borrow.Author.Needs.{needs}
 use Rattle.plans.proofs.credit.Credit.after.Statement.{statement}
 use Rattle.plans.proofs.credit.Credit.after.Tie as tie
 
-add-t6 : tie.Need-add-t6
-add-t6 c = search needs
-
 returns : tie.Need-returns
 unfolding creditAfter
 returns c = simp (eq-eqb _ _ (c .before .before .if1 .taken))
@@ -16,4 +13,4 @@ unfolding creditAfter
 returns-2 c = simp (ne-eqb _ _ (c .if1 .left))
 
 pub after-spec : {M : Type 1} → statement M
-after-spec = tie.close (tie.spec add-t6 returns returns-2)
+after-spec = tie.close (tie.spec (λ c. search needs) returns returns-2)

@@ -6,26 +6,11 @@ use borrow.Author.Needs.{needs}
 use Rattle.plans.proofs.credit.Credit.sample.Statement.{statement}
 use Rattle.plans.proofs.credit.Credit.sample.Tie as tie
 
-cast-lot : tie.Need-cast-lot
-cast-lot c = search needs
-
-mul-dividend : tie.Need-mul-dividend
-mul-dividend c = search needs
-
-cast-divisor : tie.Need-cast-divisor
-cast-divisor c = search needs
-
-add-divisor : tie.Need-add-divisor
-add-divisor c = search needs
-
 mul-divisor : tie.Need-mul-divisor
 mul-divisor c = omega (arith, product-at-most _ _ _ (c .before .before .pre .0) (c .before .before .pre .2) (c .before .before .pre .3))
 
 add-divisor-2 : tie.Need-add-divisor-2
 add-divisor-2 c = omega (arith, product-at-most _ _ _ (c .before .before .pre .0) (c .before .before .pre .2) (c .before .before .pre .3))
-
-rounded-up-requires : tie.Need-rounded-up-requires
-rounded-up-requires c κs = search needs
 
 sampled : (c : tie.After-rounded-up) → c .rounded-up .result ≡ creditSample (c .before .before .before .args .self .0) (c .before .before .before .args .size .0) (c .before .before .before .args .limit)
 unfolding creditSample sampleDividend sampleDivisor
@@ -40,13 +25,5 @@ returns c = rw (sampled c) (refl, (credit-sample-least _ _ _, (credit-sample-at-
 pub sample-spec : {M : Type 1} → statement M
 sample-spec =
     tie.close
-    (tie.spec
-    cast-lot
-    mul-dividend
-    cast-divisor
-    add-divisor
-    mul-divisor
-    add-divisor-2
-    rounded-up-requires
-    cast-t11
-    returns)
+    (tie.spec (λ c. search needs) (λ c. search needs) (λ c. search needs) (λ c. search needs) mul-divisor add-divisor-2 (λ c κs. search needs)
+    cast-t11 returns)

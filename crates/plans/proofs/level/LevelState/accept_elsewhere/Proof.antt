@@ -4,14 +4,8 @@ use borrow.Author.Needs.{needs}
 use Rattle.plans.proofs.level.LevelState.accept_elsewhere.Statement.{statement}
 use Rattle.plans.proofs.level.LevelState.accept_elsewhere.Tie as tie
 
-shift-in-requires : tie.Need-shift-in-requires
-shift-in-requires c κs = search needs
-
-add-self : tie.Need-add-self
-add-self c = search needs
-
 returns : tie.Need-returns
 returns c = λ permits. elsewhere-stays permits (c .before .before .args .self) (c .before .shift-in .result) (omega arith) (c .before .before .pre .0) (c .before .before .pre .1)
 
 pub accept-elsewhere-spec : {M : Type 1} → statement M
-accept-elsewhere-spec = tie.close (tie.spec shift-in-requires add-self returns)
+accept-elsewhere-spec = tie.close (tie.spec (λ c κs. search needs) (λ c. search needs) returns)

@@ -10,28 +10,13 @@ use borrow.Author.Needs.{needs}
 use Rattle.plans.proofs.level.LevelState.accept_on_normal.Statement.{statement}
 use Rattle.plans.proofs.level.LevelState.accept_on_normal.Tie as tie
 
-shift-in-requires : tie.Need-shift-in-requires
-shift-in-requires c κs = search needs
-
-withheld-in-requires : tie.Need-withheld-in-requires
-withheld-in-requires c κs = search needs
-
-arrive-requires : tie.Need-arrive-requires
-arrive-requires c κs = search needs
-
 returns : tie.Need-returns
 unfolding arrived
 returns c = c .arrive .ensures ∙ normal-tightens (c .before .before .before .before .args .permits-reduced) (c .before .before .before .before .args .self) (c .before .before .before .shift-in .result) (omega arith) (omega arith) (omega arith)
 
-arrive-requires-2 : tie.Need-arrive-requires-2
-arrive-requires-2 c κs = search needs
-
 returns-2 : tie.Need-returns-2
 unfolding arrived
 returns-2 c = c .arrive2 .ensures ∙ normal-reduces (c .before .before .before .before .before .before .before .args .permits-reduced) (c .before .before .before .before .before .before .before .args .self) (c .before .before .before .before .before .before .shift-in .result) (omega arith) (omega arith) (omega arith) (omega arith) (c .before .if3 .taken)
-
-add-self : tie.Need-add-self
-add-self c = search needs
 
 returns-3 : tie.Need-returns-3
 returns-3 c =
@@ -41,12 +26,5 @@ returns-3 c =
 pub accept-on-normal-spec : {M : Type 1} → statement M
 accept-on-normal-spec =
     tie.close
-    (tie.spec
-    shift-in-requires
-    withheld-in-requires
-    arrive-requires
-    returns
-    arrive-requires-2
-    returns-2
-    add-self
+    (tie.spec (λ c κs. search needs) (λ c κs. search needs) (λ c κs. search needs) returns (λ c κs. search needs) returns-2 (λ c. search needs)
     returns-3)

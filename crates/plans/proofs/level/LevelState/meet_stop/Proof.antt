@@ -9,15 +9,9 @@ returns : tie.Need-returns
 unfolding metStop setUpChanged longStop
 returns c = simp (ne-eqb _ _ (c .if1 .taken))
 
-arrive-requires : tie.Need-arrive-requires
-arrive-requires c κs = search needs
-
 returns-2 : tie.Need-returns-2
 unfolding metStop setUpChanged longStop
 returns-2 c = simp (eq-eqb _ _ (c .before .before .if1 .left), eq-eqb _ _ (c .before .if2 .taken)) (c .arrive .ensures)
-
-arrive-requires-2 : tie.Need-arrive-requires-2
-arrive-requires-2 c κs = search needs
 
 returns-3 : tie.Need-returns-3
 unfolding metStop setUpChanged longStop
@@ -28,5 +22,4 @@ unfolding metStop setUpChanged longStop
 returns-4 c = simp (eq-eqb _ _ (c .before .before .if1 .left), ne-eqb _ _ (c .before .if2 .left), le-ltb _ _ (c .if3 .left))
 
 pub meet-stop-spec : {M : Type 1} → statement M
-meet-stop-spec =
-    tie.close (tie.spec returns arrive-requires returns-2 arrive-requires-2 returns-3 returns-4)
+meet-stop-spec = tie.close (tie.spec returns (λ c κs. search needs) returns-2 (λ c κs. search needs) returns-3 returns-4)

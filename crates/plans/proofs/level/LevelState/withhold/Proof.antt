@@ -6,24 +6,12 @@ use borrow.Author.Needs.{needs}
 use Rattle.plans.proofs.level.LevelState.withhold.Statement.{statement}
 use Rattle.plans.proofs.level.LevelState.withhold.Tie as tie
 
-shift-in-requires : tie.Need-shift-in-requires
-shift-in-requires c κs = search needs
-
-arrive-requires : tie.Need-arrive-requires
-arrive-requires c κs = search needs
-
 returns : tie.Need-returns
 unfolding arrived
 returns c = λ permits. c .arrive .ensures ∙ withheld-ends permits (c .before .before .before .before .before .before .args .self) (c .before .before .before .before .before .shift-in .result) (omega arith) (omega arith) (omega arith)
 
-add-self : tie.Need-add-self
-add-self c = search needs
-
 returns-2 : tie.Need-returns-2
 returns-2 c = λ permits. withheld-on permits (c .before .before .before .before .before .before .args .self) (c .before .before .before .before .before .shift-in .result) (omega arith) (omega arith) (omega arith)
-
-arrive-requires-2 : tie.Need-arrive-requires-2
-arrive-requires-2 c κs = search needs
 
 returns-3 : tie.Need-returns-3
 unfolding arrived
@@ -31,9 +19,6 @@ returns-3 c = λ permits. c .arrive2 .ensures ∙ withheld-again permits (c .bef
 
 returns-4 : tie.Need-returns-4
 returns-4 c = λ permits. withheld-first permits (c .before .before .before .before .before .before .before .args .self) (c .before .before .before .before .before .before .shift-in .result) (omega arith) (omega arith) (omega arith)
-
-arrive-requires-3 : tie.Need-arrive-requires-3
-arrive-requires-3 c κs = search needs
 
 returns-5 : tie.Need-returns-5
 unfolding arrived
@@ -45,15 +30,5 @@ returns-6 c = λ permits. withheld-elsewhere permits (c .before .before .before 
 pub withhold-spec : {M : Type 1} → statement M
 withhold-spec =
     tie.close
-    (tie.spec
-    shift-in-requires
-    arrive-requires
-    returns
-    add-self
-    returns-2
-    arrive-requires-2
-    returns-3
-    returns-4
-    arrive-requires-3
-    returns-5
-    returns-6)
+    (tie.spec (λ c κs. search needs) (λ c κs. search needs) returns (λ c. search needs) returns-2 (λ c κs. search needs) returns-3 returns-4
+    (λ c κs. search needs) returns-5 returns-6)

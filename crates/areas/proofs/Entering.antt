@@ -1,0 +1,161 @@
+-- A call that enters something, on an area in which the stream is opened: refused up to the last of its list, or by the last where the
+-- step of the plan fails, or entered. Assumes nothing.
+use Prim.Native.Nat.{ℕ, _+_, _≤_, _<_}
+use mathlib.Core.Path.{_≡_, refl, sym, ap, _∙_}
+use mathlib.Core.Bool.{Bool, true, false, cond, not, _&&_, _||_}
+use mathlib.Core.List.{List, [], _∷_}
+use native.Mathlib.Omega.{arith}
+use lib.Dec.{eqb, ltb}
+use lib.ListN.{length}
+use borrow.Author.Tests.{eq-eqb, ne-eqb, eqb-true, ltb-false, leb-false, not-false}
+use Rattle.plans.specs.Limits.{longestRun}
+use Rattle.model.specs.declared.Plan.{Plan}
+use Rattle.model.specs.declared.Entry.{Entry}
+use Rattle.model.specs.declared.Entry.the-variants.{Lot, Run, Block, Stop}
+use Rattle.model.specs.declared.Call.the-variants.{Enter}
+use Rattle.model.specs.declared.Figures.{Figures}
+use Rattle.model.specs.declared.Answer.{Answer}
+use Rattle.model.specs.Sizes.{mostRecords}
+use Rattle.model.specs.Stations.{isContinuous, within}
+use Rattle.model.specs.Figuring.{sampleAsked, stepped}
+use Rattle.model.specs.Calls.{Refusal, refuse, firstOf, entryRefusals, isFull, accepts, refused, entryAnswer}
+use Rattle.model.specs.Area.{recordOf, onArea}
+use Rattle.model.proofs.Booleans.{neither-of, never-both}
+use Rattle.rules.specs.Refusing.{UpToLast}
+use Rattle.replaying.specs.declared.Entered.{Entered}
+use Rattle.replaying.specs.Replaying.{Reached, tried, askedLot}
+use Rattle.replaying.proofs.Tried.{accepts-anywhere}
+use Rattle.records.specs.Records.{LevelFits}
+use Rattle.areas.specs.Written.{rewritten}
+use Rattle.replay.specs.declared.Standing.{Standing}
+use Rattle.areas.proofs.OnReading.{OpenedAt, read-plan, read-entries}
+use Rattle.areas.proofs.Outcomes.{leaves, enter-refused, entered, after-fits}
+
+-- where none but the last of some refusals can be given, the first does not apply
+passed-last : (n last : ℕ) (applies : Bool) (rs : List Refusal) (accepted : Bool) → 0 < n → (n ≡ last → ⊥)
+    → firstOf (refuse n applies ∷ rs) ≡ cond accepted 0 last → (applies ≡ false) × (firstOf rs ≡ cond accepted 0 last)
+unfolding firstOf
+passed-last n last true rs true positive other e = absurd (omega arith)
+passed-last n last true rs false positive other e = absurd (other e)
+passed-last n last false rs accepted positive other e = (refl, e)
+
+room-of : (count : ℕ) → isFull count ≡ false → count < mostRecords
+unfolding isFull
+room-of count e = omega (arith, leb-false _ count e)
+
+-- what is known of an entry that is refused by the last of its list, or not at all
+pub record LeftLot (p : Plan) (f : Figures) (count N n : ℕ) : Type 0 where
+  pub lots : isContinuous p ≡ false
+  pub room : count < mostRecords
+  pub sample : n ≡ sampleAsked p f N
+
+pub record LeftContinuous (p : Plan) (count w : ℕ) : Type 0 where
+  pub kind : p .kind ≡ 3
+  pub room : count < mostRecords
+  pub wrong : w ≤ 1
+
+module _ (p : Plan) (f : Figures) (count : ℕ) where
+  pub left-lot : (label N n d D : ℕ) → firstOf (entryRefusals p f count (Lot label N n d D)) ≡ cond (accepts p f count (Lot label N n d D)) 0 13 → LeftLot p f count N n
+  unfolding entryRefusals
+  left-lot label N n d D e =
+      let accepted = accepts p f count (Lot label N n d D) in
+      let seven = passed-last 7 13 _ _ accepted (omega arith) (λ z. omega arith) e in
+      let eight = passed-last 8 13 _ _ accepted (omega arith) (λ z. omega arith) (seven .1) in
+      let nine = passed-last 9 13 _ _ accepted (omega arith) (λ z. omega arith) (eight .1) in
+      let ten = passed-last 10 13 _ _ accepted (omega arith) (λ z. omega arith) (nine .1) in
+      let eleven = passed-last 11 13 _ _ accepted (omega arith) (λ z. omega arith) (ten .1) in
+      let twelve = passed-last 12 13 _ _ accepted (omega arith) (λ z. omega arith) (eleven .1) in
+      record {
+        lots = seven .0;
+        room = room-of count (nine .0);
+        sample = eqb-true n (sampleAsked p f N) (not-false _ (twelve .0));
+      }
+
+  pub left-run : (h w : ℕ) → firstOf (entryRefusals p f count (Run h w)) ≡ cond (accepts p f count (Run h w)) 0 14 → LeftContinuous p count w
+  unfolding entryRefusals isContinuous
+  left-run h w e =
+      let accepted = accepts p f count (Run h w) in
+      let seven = passed-last 7 14 _ _ accepted (omega arith) (λ z. omega arith) e in
+      let nine = passed-last 9 14 _ _ accepted (omega arith) (λ z. omega arith) (seven .1) in
+      let fifteen = passed-last 15 14 _ _ accepted (omega arith) (λ z. omega arith) (nine .1) in
+      let range = neither-of (ltb longestRun h || ltb 1 w) (eqb (h + w) 0) (fifteen .0) in
+      record {
+        kind = eqb-true (p .kind) 3 (not-false _ (seven .0));
+        room = room-of count (nine .0);
+        wrong = ltb-false 1 w (neither-of (ltb longestRun h) (ltb 1 w) (range .0) .1);
+      }
+
+  pub left-block : (q w : ℕ) → firstOf (entryRefusals p f count (Block q w)) ≡ cond (accepts p f count (Block q w)) 0 14 → LeftContinuous p count w
+  unfolding entryRefusals isContinuous
+  left-block q w e =
+      let accepted = accepts p f count (Block q w) in
+      let seven = passed-last 7 14 _ _ accepted (omega arith) (λ z. omega arith) e in
+      let nine = passed-last 9 14 _ _ accepted (omega arith) (λ z. omega arith) (seven .1) in
+      let fifteen = passed-last 15 14 _ _ accepted (omega arith) (λ z. omega arith) (nine .1) in
+      record {
+        kind = eqb-true (p .kind) 3 (not-false _ (seven .0));
+        room = room-of count (nine .0);
+        wrong = ltb-false 1 w (neither-of (not (within 1 (p .b) q)) (ltb 1 w) (fifteen .0) .1);
+      }
+
+  pub left-stop : (why days : ℕ) → firstOf (entryRefusals p f count (Stop why days)) ≡ cond (accepts p f count (Stop why days)) 0 15 → count < mostRecords
+  unfolding entryRefusals
+  left-stop why days e =
+      let accepted = accepts p f count (Stop why days) in
+      let eight = passed-last 8 15 _ _ accepted (omega arith) (λ z. omega arith) e in
+      let nine = passed-last 9 15 _ _ accepted (omega arith) (λ z. omega arith) (eight .1) in
+      room-of count (nine .0)
+
+-- a lot with the sample asked is that lot
+pub lot-asked : (p : Plan) (f : Figures) (label N n d D : ℕ) → n ≡ sampleAsked p f N → askedLot p f label N d D ≡ Lot label N n d D
+unfolding askedLot
+lot-asked p f label N n d D same = rw same
+
+module _ {area : List ℕ} {s : Standing} {es : List Entry} (at : OpenedAt 0 area s es) where
+  -- figures that calls have left, with a place free
+  pub reached-here : s .count < mostRecords → Reached (s .plan) (s .figures)
+  reached-here room =
+      record {
+        entries = es;
+        valid = read-plan at;
+        stood = read-entries at;
+        free = omega (arith, at .counted);
+        after = at .brought;
+      }
+
+  module _ (e : Entry) (last : ℕ) {r : ℕ} (told : UpToLast (s .plan) (s .figures) (s .count) e last r) where
+    -- an earlier refusal applies
+    pub refused-first : {a : Answer} → (r ≡ 0 → ⊥) → a ≡ refused r → leaves a area ≡ onArea area (Enter e)
+    refused-first applies given = enter-refused at e (sym (told ∙ rw (ne-eqb r 0 applies))) applies given
+
+    module _ (none : r ≡ 0) where
+      -- only the last is left
+      pub last-left : firstOf (entryRefusals (s .plan) (s .figures) (s .count) e) ≡ cond (accepts (s .plan) (s .figures) (s .count) e) 0 last
+      last-left = told ∙ rw none
+
+      module _ (room : s .count < mostRecords) {x : Entered} (made : x ≡ tried (s .plan) (s .figures) e) where
+        accepted-as : {b : Bool} → x .sound ≡ b → accepts (s .plan) (s .figures) (s .count) e ≡ b
+        unfolding tried
+        accepted-as is =
+            accepts-anywhere (s .plan) (s .figures) (s .count) e room ∙ sym (ap (λ (y : Entered). y .sound) made) ∙ is
+
+        -- the step fails: the last applies
+        pub refused-last : {a : Answer} → 0 < last → x .sound ≡ false → a ≡ refused last → leaves a area ≡ onArea area (Enter e)
+        refused-last positive fails given = enter-refused at e (sym (last-left ∙ rw (accepted-as fails))) (λ z. omega arith) given
+
+        -- it does not: none applies, and the figures are those after the entry
+        pub none-refused : x .sound ≡ true → firstOf (entryRefusals (s .plan) (s .figures) (s .count) e) ≡ 0
+        none-refused holds = last-left ∙ rw (accepted-as holds)
+
+        pub figures-after : x .sound ≡ true → x .figures ≡ stepped (s .plan) e (s .figures)
+        unfolding tried
+        figures-after holds =
+            ap (λ (y : Entered). y .figures) made ∙ rw (sym (ap (λ (y : Entered). y .sound) made) ∙ holds)
+
+        pub fits-after : x .sound ≡ true → LevelFits (x .figures .level)
+        fits-after holds = after-fits at e (none-refused holds) (figures-after holds)
+
+        -- what it gives, and the area after it
+        pub entered-here : {a : Answer} {after : List ℕ} → x .sound ≡ true → a ≡ entryAnswer (s .plan) (s .figures) e
+            → after ≡ rewritten (s .count) (recordOf e) (s .count + 1) (x .figures) area → leaves a after ≡ onArea area (Enter e)
+        entered-here holds given left = entered at e refl (none-refused holds) (figures-after holds) given left

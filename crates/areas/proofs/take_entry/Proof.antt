@@ -1,0 +1,13 @@
+use Rattle.areas.specs.Written.{rewritten}
+use borrow.Author.Needs.{needs}
+use Rattle.areas.proofs.take_entry.Statement.{statement}
+use Rattle.areas.proofs.take_entry.Tie as tie
+
+returns : tie.Need-returns
+unfolding rewritten
+returns c = (cc, cc)
+
+pub take-entry-spec : {M : Type 1} → statement M
+take-entry-spec =
+    tie.close
+    (tie.spec (λ c κs. search needs) (λ c κs. search needs) (λ c κs. search needs) (λ c. search needs) (λ c. search needs) returns)

@@ -1,0 +1,173 @@
+-- What an entry gives wherever a place is free, and which entry a record holds, by its head. Assumes nothing.
+use Prim.Native.Nat.{ℕ, _+_, _*_, _≤_, _<_}
+use mathlib.Core.Path.{_≡_, refl}
+use mathlib.Core.Bool.{Bool, true, false, cond, not, _&&_, _||_, or-true}
+use native.Mathlib.Omega.{arith}
+use lib.Dec.{eqb, ltb, leb}
+use borrow.Author.Tests.{eqb-true, eqb-false, eq-eqb, lt-leb, leb-true, leb-false, lt-ltb, le-ltb}
+use Rattle.plans.specs.Limits.{longestStop}
+use Rattle.model.specs.declared.Plan.{Plan}
+use Rattle.model.specs.declared.Entry.{Entry}
+use Rattle.model.specs.declared.Entry.the-variants.{Lot, Run, Block, Stop}
+use Rattle.model.specs.declared.Figures.{Figures}
+use Rattle.model.specs.Sizes.{mostRecords}
+use Rattle.model.specs.Stations.{isContinuous, within}
+use Rattle.model.specs.Figuring.{sampleAsked, verdictOn, stepped}
+use Rattle.model.specs.Calls.{firstOf, entryRefusals, isDiscontinued, isFull, sameLabel, sizeInRange, countsAgree, accepts}
+use Rattle.model.proofs.Allowed.{allowed-lot, allowed-run, allowed-block, allowed-stop}
+use Rattle.model.proofs.Booleans.{both-true}
+use Rattle.rules.specs.Refusing.{isStop}
+use Rattle.records.specs.declared.Record.{Record}
+use Rattle.replaying.specs.Replaying.{entryOf, oneNumber, wellFormed, headOf, stands, enteredIf, entered, tried, askedLot, unsoundAt}
+use Rattle.replaying.proofs.Heads.{head-is}
+
+-- ---- entries
+
+-- where a place is free, it does not matter which
+pub accepts-anywhere : (p : Plan) (f : Figures) (i : ℕ) (e : Entry) → i < mostRecords → accepts p f i e ≡ accepts p f 0 e
+unfolding accepts firstOf entryRefusals isFull
+accepts-anywhere p f i (Lot label N n d D) free = rw (lt-leb mostRecords i free)
+accepts-anywhere p f i (Run h w) free = rw (lt-leb mostRecords i free)
+accepts-anywhere p f i (Block q w) free = rw (lt-leb mostRecords i free)
+accepts-anywhere p f i (Stop why days) free = rw (lt-leb mostRecords i free)
+
+-- an entry that is accepted is not refused
+pub accepted-zero : (p : Plan) (f : Figures) (i : ℕ) (e : Entry) → accepts p f i e ≡ true → firstOf (entryRefusals p f i e) ≡ 0
+unfolding accepts
+accepted-zero p f i e a = eqb-true (firstOf (entryRefusals p f i e)) 0 a
+
+-- the refusals of a lot by its label, size and counts
+none-given : (same size counts : Bool)
+    → eqb (cond same 10 (cond (not size) 11 (cond (not counts) 13 0))) 0 ≡ not same && size && counts
+none-given true size counts = refl
+none-given false false counts = refl
+none-given false true false = refl
+none-given false true true = refl
+
+module _ (p : Plan) (f : Figures) (running : isDiscontinued f ≡ false) where
+  -- a lot is accepted by its label, its size and its counts
+  pub lot-tried : isContinuous p ≡ false → (label N d D : ℕ)
+      → tried p f (askedLot p f label N d D)
+      ≡ enteredIf (not (sameLabel f label) && sizeInRange p N && countsAgree (verdictOn p f d) N (sampleAsked p f N) d D)
+      (stepped p (askedLot p f label N d D) f) f
+  unfolding tried accepts firstOf entryRefusals isFull askedLot
+  lot-tried lots label N d D =
+      rw (lots, running, eq-eqb (sampleAsked p f N) (sampleAsked p f N) refl)
+      (rw (none-given (sameLabel f label) (sizeInRange p N) (countsAgree (verdictOn p f d) N (sampleAsked p f N) d D)))
+
+  -- and a stop, on a stream of any plan, by its why and days
+  stop-accepts : (why days : ℕ) → accepts p f 0 (Stop why days) ≡ isStop why days
+  unfolding accepts firstOf entryRefusals isFull isStop within
+  stop-accepts why days = rw running (go (eqb why 2) (eqb why 1) refl refl)
+    where
+      pause : (b : Bool) → leb days longestStop ≡ b → eqb (cond (ltb longestStop days || false) 15 0) 0 ≡ b
+      pause true e = rw (le-ltb longestStop days (leb-true days longestStop e))
+      pause false e = rw (lt-ltb longestStop days (leb-false days longestStop e))
+
+      change : (b : Bool) → eqb days 0 ≡ b → eqb (cond (ltb longestStop days || ltb 0 days) 15 0) 0 ≡ b
+      change true e = rw (eqb-true days 0 e)
+      change false e =
+          let some : days ≡ 0 → ⊥ = eqb-false days 0 e in
+          rw (lt-ltb 0 days (omega arith), or-true (ltb longestStop days))
+
+      other : (why ≡ 1 → ⊥) → (why ≡ 2 → ⊥) → within 1 2 why ≡ false
+      other one two = or-less (leb 1 why) refl
+        where
+          or-less : (b : Bool) → leb 1 why ≡ b → b && leb why 2 ≡ false
+          or-less true e = lt-leb why 2 (omega (arith, leb-true 1 why e))
+          or-less false e = refl
+
+      go : (two one : Bool) → eqb why 2 ≡ two → eqb why 1 ≡ one
+          → eqb (cond (not (within 1 2 why) || ltb longestStop days || (two && ltb 0 days)) 15 0) 0 ≡ cond two (eqb days 0) (one && leb days longestStop)
+      go true one a b = let k = eqb-true why 2 a in rw k (change (eqb days 0) refl)
+      go false true a b = let k = eqb-true why 1 b in rw k (pause (leb days longestStop) refl)
+      go false false a b = rw (other (eqb-false why 1 b) (eqb-false why 2 a))
+
+  pub stop-tried : (why days : ℕ) → tried p f (Stop why days) ≡ enteredIf (isStop why days) (stepped p (Stop why days) f) f
+  unfolding tried
+  stop-tried why days = rw (stop-accepts why days)
+
+-- ---- records
+
+module _ (p : Plan) (f : Figures) (r : Record) where
+  -- nor does it matter for a record
+  pub entered-anywhere : (i : ℕ) → i < mostRecords → entered p f i r ≡ entered p f 0 r
+  unfolding entered stands
+  entered-anywhere i free = rw (accepts-anywhere p f i (entryOf p f r) free)
+
+  formed : (e : Entry) → wellFormed r ≡ true → entryOf p f r ≡ e → entered p f 0 r ≡ tried p f e
+  unfolding entered stands tried
+  formed e w same = rw (w, same)
+
+  -- the record of a lot, by its head
+  pub lot-record : headOf r ≡ 1 → entered p f 0 r ≡ tried p f (askedLot p f (r .a) (r .b) (r .c) (r .d))
+  unfolding askedLot headOf wellFormed entryOf
+  lot-record head =
+      let kind : r .kind ≡ 1 = omega arith in
+      let flag : r .flag ≡ 0 = omega arith in
+      let spare : r .spare ≡ 0 = omega arith in
+      formed _ (rw (kind, flag, spare)) (rw kind)
+
+  -- and of a run, a block and a stop, with their flag
+  module _ (kinds : r .kind < 256) (flags : r .flag < 256) (one : oneNumber r ≡ true) (w : ℕ) (small : w < 256) where
+    pub run-record : headOf r ≡ 2 + w * 256 → entered p f 0 r ≡ tried p f (Run (r .a) w)
+    unfolding wellFormed entryOf
+    run-record head =
+        let form = head-is r 2 w kinds flags (omega arith) small head in
+        formed _ (rw (form .0, form .2) one) (rw (form .0, form .1))
+
+    pub block-record : headOf r ≡ 3 + w * 256 → entered p f 0 r ≡ tried p f (Block (r .a) w)
+    unfolding wellFormed entryOf
+    block-record head =
+        let form = head-is r 3 w kinds flags (omega arith) small head in
+        formed _ (rw (form .0, form .2) one) (rw (form .0, form .1))
+
+    pub stop-record : headOf r ≡ 4 + w * 256 → entered p f 0 r ≡ tried p f (Stop w (r .a))
+    unfolding wellFormed entryOf
+    stop-record head =
+        let form = head-is r 4 w kinds flags (omega arith) small head in
+        formed _ (rw (form .0, form .2) one) (rw (form .0, form .1))
+
+  -- no other record stands: a lot's on a stream for lots, a run's or block's on a continuous one, and a stop's
+  module _ (lot : headOf r ≡ 1 → isContinuous p ≡ false → ⊥)
+      (stop : oneNumber r ≡ true → (w : ℕ) → 1 ≤ w → w ≤ 2 → headOf r ≡ 4 + w * 256 → ⊥)
+      (run : oneNumber r ≡ true → isContinuous p ≡ true → (w : ℕ) → w ≤ 1 → headOf r ≡ 2 + w * 256 → ⊥)
+      (block : oneNumber r ≡ true → isContinuous p ≡ true → (w : ℕ) → w ≤ 1 → headOf r ≡ 3 + w * 256 → ⊥) where
+    stood : wellFormed r ≡ true → accepts p f 0 (entryOf p f r) ≡ true → ⊥
+    unfolding wellFormed headOf entryOf askedLot
+    stood w a = go (eqb (r .kind) 1) (eqb (r .kind) 2) (eqb (r .kind) 3) refl refl refl (both-true (eqb (r .spare) 0) _ w .1)
+      where
+        given : (e : Entry) → entryOf p f r ≡ e → firstOf (entryRefusals p f 0 e) ≡ 0
+        given e same = accepted-zero p f 0 e (rw same at a)
+
+        spare : r .spare ≡ 0
+        spare = eqb-true (r .spare) 0 (both-true (eqb (r .spare) 0) _ w .0)
+
+        go : (k1 k2 k3 : Bool) → eqb (r .kind) 1 ≡ k1 → eqb (r .kind) 2 ≡ k2 → eqb (r .kind) 3 ≡ k3
+            → cond k1 (eqb (r .flag) 0) ((k2 || k3 || eqb (r .kind) 4) && oneNumber r) ≡ true → ⊥
+        go true k2 k3 x y z t =
+            let k = eqb-true (r .kind) 1 x in
+            let flag = eqb-true (r .flag) 0 t in
+            lot (omega (arith, spare)) (allowed-lot p f 0 _ _ _ _ _ (given (askedLot p f (r .a) (r .b) (r .c) (r .d)) (rw k)) .lots)
+        go false true k3 x y z t =
+            let k = eqb-true (r .kind) 2 y in
+            let allowed = allowed-run p f 0 _ _ (given (Run (r .a) (r .flag)) (rw k)) in
+            run t (allowed .continuous) (r .flag) (allowed .wrong) (omega (arith, spare))
+        go false false true x y z t =
+            let k = eqb-true (r .kind) 3 z in
+            let allowed = allowed-block p f 0 _ _ (given (Block (r .a) (r .flag)) (rw k)) in
+            block t (allowed .continuous) (r .flag) (allowed .wrong) (omega (arith, spare))
+        go false false false x y z t =
+            let k = eqb-true (r .kind) 4 (both-true (eqb (r .kind) 4) (oneNumber r) t .0) in
+            let allowed = allowed-stop p f 0 _ _ (given (Stop (r .flag) (r .a)) (rw k)) in
+            stop (both-true (eqb (r .kind) 4) (oneNumber r) t .1) (r .flag) (allowed .first) (allowed .last) (omega (arith, spare))
+
+    pub no-record : entered p f 0 r ≡ unsoundAt f
+    unfolding entered stands unsoundAt
+    no-record = go (wellFormed r) (accepts p f 0 (entryOf p f r)) refl refl
+      where
+        go : (w a : Bool) → wellFormed r ≡ w → accepts p f 0 (entryOf p f r) ≡ a
+            → enteredIf (w && a) (stepped p (entryOf p f r) f) f ≡ unsoundAt f
+        go true true w a = absurd (stood w a)
+        go true false w a = refl
+        go false a w e = refl
