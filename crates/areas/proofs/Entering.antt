@@ -126,12 +126,12 @@ module _ {area : List ℕ} {s : Standing} {es : List Entry} (at : OpenedAt 0 are
   module _ (e : Entry) (last : ℕ) {r : ℕ} (told : UpToLast (s .plan) (s .figures) (s .count) e last r) where
     -- an earlier refusal applies
     pub refused-first : {a : Answer} → (r ≡ 0 → ⊥) → a ≡ refused r → leaves a area ≡ onArea area (Enter e)
-    refused-first applies given = enter-refused at e (sym (told ∙ rw (ne-eqb r 0 applies))) applies given
+    refused-first applies given = enter-refused at e (sym (told .1 ∙ rw (ne-eqb r 0 applies))) applies given
 
     module _ (none : r ≡ 0) where
       -- only the last is left
       pub last-left : firstOf (entryRefusals (s .plan) (s .figures) (s .count) e) ≡ cond (accepts (s .plan) (s .figures) (s .count) e) 0 last
-      last-left = told ∙ rw none
+      last-left = told .1 ∙ rw none
 
       module _ (room : s .count < mostRecords) {x : Entered} (made : x ≡ tried (s .plan) (s .figures) e) where
         accepted-as : {b : Bool} → x .sound ≡ b → accepts (s .plan) (s .figures) (s .count) e ≡ b

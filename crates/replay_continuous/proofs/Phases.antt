@@ -27,7 +27,7 @@ use Rattle.replay_continuous.specs.Places.{leftOf, stateOf, figuresWith,
 -- figures that a place stands for
 pub record Placed (p : Plan) (f : Figures) : Type 0 where
   pub counts : f .continuous .count ≤ p .a
-  pub least : leftOf (p .a) (f .continuous) ≤ p .a
+  pub within : leftOf (p .a) (f .continuous) ≤ p .a
   pub same : figuresIn (p .a) (placeFrom (p .a) f) ≡ f
 
 module _ (p : Plan) (n : ℕ) where
@@ -35,11 +35,11 @@ module _ (p : Plan) (n : ℕ) where
   unfolding figuresIn leftOf stateOf screening isSampling
   in-screening c short =
       let back : p .a - (p .a - c) ≡ c = omega arith in
-      record { counts = omega arith; least = omega arith; same = rw (ne-eqb (p .a - c) 0 (λ z. omega arith), back) }
+      record { counts = omega arith; within = omega arith; same = rw (ne-eqb (p .a - c) 0 (λ z. omega arith), back) }
 
   in-sampling : (u : ℕ) → Placed p (figuresWith (sampling u) n)
   unfolding figuresIn leftOf stateOf sampling isSampling
-  in-sampling u = record { counts = omega arith; least = omega arith; same = refl }
+  in-sampling u = record { counts = omega arith; within = omega arith; same = refl }
 
   -- a run to the clearance number at most
   run-in-phase : (count : ℕ) → count ≤ p .a → Placed p (figuresWith (cond (eqb count (p .a)) (sampling 0) (screening count)) n)

@@ -73,11 +73,11 @@ module _ (p : Plan) (s : Place) (on : OnContinuous p s) where
           counts = λ b t z. placed (sym t ∙ not-false b z) .counts;
           stands = λ b t z.
               let stood = placed (sym t ∙ not-false b z) in
-              record { same = rw (same ∙ sym t ∙ not-false b z, made) (ap soundAt (stood .same)); within = stood .least };
+              record { same = rw (same ∙ sym t ∙ not-false b z, made) (ap soundAt (stood .same)); within = stood .within };
         }
 
   fits-run : (h : ℕ) (wrong : Bool) → accepts p (figuresAt p s) 0 (Run h (flagOf wrong)) ≡ fitsRun (s .left) h wrong
-  fits-run = run-accepts p blocks s (on .least) (plan-of .clearanceMost)
+  fits-run = run-accepts p blocks s (on .within) (plan-of .clearanceMost)
 
   pub run-room : (h : ℕ) (wrong b : Bool) → b ≡ fitsRun (s .left) h wrong → not b ≡ false
       → stateOf (p .a) (s .left) (s .tail) .count + h ≤ p .a
@@ -171,7 +171,7 @@ module _ (p : Plan) (f : Figures) (reached : Reached p f) (kind : p .kind ≡ 3)
   here = rw from (reached-placed p f reached kind .same)
 
   pub call-on : OnContinuous p s
-  call-on = record { kind = kind; reached = rw here reached; least = rw from (reached-placed p f reached kind .least) }
+  call-on = record { kind = kind; reached = rw here reached; within = rw from (reached-placed p f reached kind .within) }
 
   pub call-stepped : (e : Entry) (x : Step) → Steps p s x (tried p (figuresAt p s) e) → enteredAs (p .a) f x ≡ tried p f e
   call-stepped e x steps = rw here at (steps .same)

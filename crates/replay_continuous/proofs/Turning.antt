@@ -22,8 +22,8 @@ module _ (p : Plan) (area : List ℕ) (i to : ℕ) where
 
   module _ (s : Place) (ready : Ready p area (figuresIn (p .a) s) i to) (more : i < to) where
     pub turn-read : p .kind ≡ 3 → AreBytes area → s .left ≤ p .a → ReadAt p area s (headerLength + recordLength * i)
-    turn-read kind bytes least =
+    turn-read kind bytes within =
         record {
           inArea = omega (arith, ready .whole);
-          on = record { kind = kind; reached = ready-reached p area _ i to ready bytes more; least = least };
+          on = record { kind = kind; reached = ready-reached p area _ i to ready bytes more; within = within };
         }

@@ -56,7 +56,7 @@ placeFrom clearance f = placeOf clearance (f .continuous) (f .accepted)
 pub record OnContinuous (p : Plan) (s : Place) : Type 0 where
   pub kind : p .kind ≡ 3
   pub reached : Reached p (figuresIn (p .a) s)
-  pub least : s .left ≤ p .a
+  pub within : s .left ≤ p .a
 
 -- what 14 and 15 leave of a run where so many are left to be screened: of h right detections, then a wrong one or none
 unfoldable pub fitsRun : ℕ → ℕ → Bool → Bool
@@ -100,7 +100,7 @@ pub record NoRunOrBlock (p : Plan) (s : Place) (head : ℕ) (r : Record) : Type 
 -- an outcome tells what a record gives
 pub record Tells (p : Plan) (s : Place) (r : Record) (o : Outcome) : Type 0 where
   pub same : toldAs (p .a) o ≡ entered p (figuresIn (p .a) s) 0 r
-  pub least : o .place .left ≤ p .a
+  pub within : o .place .left ≤ p .a
 
 -- a record whole in the area, and a place before it
 pub record ReadAt (p : Plan) (area : List ℕ) (s : Place) (at : ℕ) : Type 0 where

@@ -266,7 +266,7 @@ fn step_block(plan: Plan, place: Place, heard: u32, wrong: bool) -> Step
     if place.left != 0 {
         return Step::Fails;
     }
-    if !plan::within(1, plan.b, heard) {
+    if !refusing::is_in_block(plan.b, heard) {
         return Step::Fails;
     }
     let state = state_of(plan.a, place.left, place.tail);

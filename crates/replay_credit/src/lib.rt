@@ -252,7 +252,8 @@ fn step_good_lot(plan: Plan, carried: Carried, label: u32, size: u32) -> Step
     })
 }
 
-// A lot with something wrong: only of such a one the sample is worked out, a division.
+// A lot with something wrong: only of such a one the sample is worked out, a division. Speed: where the sample has none wrong, which
+// `do_counts_agree` refuses too, it fails before that; without this test a long stream of mixed lots takes a quarter longer.
 fn step_wrong_lot(
     plan: Plan,
     carried: Carried,

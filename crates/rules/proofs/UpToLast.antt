@@ -14,7 +14,7 @@ use Rattle.rules.specs.Refusing.{UpToLast}
 pub last-alone : (p : Plan) (f : Figures) (count : ℕ) (e : Entry) (n : ℕ) (applies : Bool) → 0 < n
     → firstOf (entryRefusals p f count e) ≡ cond applies n 0 → UpToLast p f count e n 0
 unfolding accepts
-last-alone p f count e n applies positive same = rw same (go applies)
+last-alone p f count e n applies positive same = ((λ z. omega arith), rw same (go applies))
   where
     go : (b : Bool) → cond b n 0 ≡ cond (eqb (cond b n 0) 0) 0 n
     go true = rw (ne-eqb n 0 (λ z. omega arith))

@@ -1,4 +1,4 @@
--- Refusals tested up to the last of a call's list, and what a lot asks of its label and size. Assumes nothing.
+-- Refusals tested up to the last of a call's list (paper 01, "Calls"), and tests of it that calls and replays share. Assumes nothing.
 use Prim.Native.Nat.{ℕ}
 use mathlib.Core.Path.{_≡_}
 use mathlib.Core.Bool.{Bool, cond, not, _&&_}
@@ -10,9 +10,11 @@ use Rattle.model.specs.declared.Figures.{Figures}
 use Rattle.model.specs.Stations.{within}
 use Rattle.model.specs.Calls.{firstOf, entryRefusals, accepts}
 
--- r is the first of an entry's refusals before the last that applies, or 0: then it is refused by the last where it is not accepted
+-- r is the first that applies of an entry's refusals but for the last in the list, or 0: then it is refused by the last where it is not
+-- accepted
 abbrev pub UpToLast : Plan → Figures → ℕ → Entry → ℕ → ℕ → Type 0
-UpToLast p f count e last r = firstOf (entryRefusals p f count e) ≡ cond (eqb r 0) (cond (accepts p f count e) 0 last) r
+UpToLast p f count e last r =
+    (r ≡ last → ⊥) × (firstOf (entryRefusals p f count e) ≡ cond (eqb r 0) (cond (accepts p f count e) 0 last) r)
 
 -- what 10 and 11 leave of a lot: another label than the newest lot's, and a size from the least
 unfoldable pub mayFollow : ℕ → ℕ → ℕ → ℕ → Bool

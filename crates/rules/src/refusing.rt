@@ -1,5 +1,6 @@
 // Which refusal a call gets on an opened stream: paper 01, "Calls", each list of refusals in the paper's order. The last of a call that
-// enters something (13 of a lot, 14 of a run or block, 15 of a stop) is not tested here: it is given where the step of the plan fails.
+// enters something (13 of a lot, 14 of a run or block, 15 of a stop) is not in these lists: it is given where the step of the plan fails.
+// The tests that the steps share stand below.
 ghost use mathlib.Core.Path.{_≡_};
 ghost use mathlib.Core.Bool.{not, _&&_, _||_};
 ghost use Prim.Native.Nat.{ℕ, _+_, _-_, _≤_};
@@ -82,7 +83,7 @@ pub fn block(plan: Plan, count: usize, heard: u32, wrong: u32) -> u32
     if MOST_RECORDS <= count {
         return 9;
     }
-    if !plan::within(1, plan.b, heard) {
+    if !is_in_block(plan.b, heard) {
         return 15;
     }
     if 1 < wrong {
@@ -140,9 +141,16 @@ fn is_size(plan: Plan, size: u32) -> bool
     ensures { λ r. ⌜ r ≡ sizeInRange plan size ⌝ }
 {
     if plan.kind == plan::LEVEL {
-        return plan::within(limits::LEAST_LEVEL_LOT, limits::LARGEST_LOT, size);
+        return is_size_from(limits::LEAST_LEVEL_LOT, size);
     }
-    plan::within(limits::LEAST_LOT, limits::LARGEST_LOT, size)
+    is_size_from(limits::LEAST_LOT, size)
+}
+
+// The same on a stream whose lots have at least so many detections.
+fn is_size_from(least: u32, size: u32) -> bool
+    ensures { λ r. ⌜ r ≡ within least largestLot size ⌝ }
+{
+    plan::within(least, limits::LARGEST_LOT, size)
 }
 
 // What 10 and 11 leave of a lot on a stream whose lots have at least so many detections.
@@ -152,7 +160,14 @@ pub fn may_follow(least: u32, newest: u64, label: u32, size: u32) -> bool
     if is_same_label(newest, label) {
         return false;
     }
-    plan::within(least, limits::LARGEST_LOT, size)
+    is_size_from(least, size)
+}
+
+// What 15 leaves of a block: the detection that was heard is one of the block's.
+pub fn is_in_block(interval: u32, heard: u32) -> bool
+    ensures { λ r. ⌜ r ≡ within 1 interval heard ⌝ }
+{
+    plan::within(1, interval, heard)
 }
 
 // What 15 leaves of a stop.

@@ -24,7 +24,7 @@ loop-holds : tie.Need-loop-holds Inv-loop μ-loop
 loop-holds c =
     let start = c .before .before in
     let placed = ready-placed _ _ _ _ _ (start .pre .0) (start .pre .1) (bytes-of (c .before)) in
-    rw (c .place-from .ensures) (rw (placed .same) (start .pre .0), placed .least)
+    rw (c .place-from .ensures) (rw (placed .same) (start .pre .0), placed .within)
 
 brought-requires : tie.Need-brought-requires Inv-loop μ-loop
 brought-requires c κs =
@@ -44,7 +44,7 @@ unfolding toldAs
 loop-again c =
     let made = c .before .before .before in
     let ready = made .before .before .loop .inv .0 in
-    (turn-taken _ _ _ _ _ ready (omega arith) (toldAs _ _) (made .brought .ensures .same) (not-false _ (c .before .if1 .left)), made .brought .ensures .least)
+    (turn-taken _ _ _ _ _ ready (omega arith) (toldAs _ _) (made .brought .ensures .same) (not-false _ (c .before .if1 .left)), made .brought .ensures .within)
 
 returns-2 : tie.Need-returns-2 Inv-loop μ-loop
 returns-2 c = rw (c .figures-at .ensures) (turns-over _ _ _ _ _ (c .before .before .loop .inv .0) (omega arith))

@@ -12,12 +12,12 @@ returns-2 : tie.Need-returns-2
 returns-2 c =
     let met = c .before .before in
     let start = met .before .before in
-    block-ways _ _ (start .pre) (met .if1 .left) _ (start .args .wrong) .fails _ (c .before .within .ensures) (c .if2 .taken)
+    block-ways _ _ (start .pre) (met .if1 .left) _ (start .args .wrong) .fails _ (c .before .is-in-block .ensures) (c .if2 .taken)
 
 block-requires : tie.Need-block-requires
 block-requires c κs =
     let tested = c .before in
-    let heard = within-of 1 _ _ (sym (tested .before .within .ensures) ∙ not-false _ (tested .if2 .left)) in
+    let heard = within-of 1 _ _ (sym (tested .before .is-in-block .ensures) ∙ not-false _ (tested .if2 .left)) in
     (heard .0, heard .1, plan-of _ _ (tested .before .before .before .before .pre) .intervalMost)
 
 stand-requires : tie.Need-stand-requires
@@ -27,7 +27,7 @@ stand-requires c κs =
     let met = tested .before .before in
     let start = met .before .before in
     rw (made .block .ensures, made .before .state-of .ensures)
-    (block-ways _ _ (start .pre) (met .if1 .left) _ (start .args .wrong) .counts _ (tested .before .within .ensures) (tested .if2 .left))
+    (block-ways _ _ (start .pre) (met .if1 .left) _ (start .args .wrong) .counts _ (tested .before .is-in-block .ensures) (tested .if2 .left))
 
 returns-3 : tie.Need-returns-3
 returns-3 c =
@@ -36,7 +36,7 @@ returns-3 c =
     let met = tested .before .before in
     let start = met .before .before in
     rw (c .stand .ensures, made .block .ensures, made .before .state-of .ensures)
-    (block-ways _ _ (start .pre) (met .if1 .left) _ (start .args .wrong) .stands _ (tested .before .within .ensures) (tested .if2 .left))
+    (block-ways _ _ (start .pre) (met .if1 .left) _ (start .args .wrong) .stands _ (tested .before .is-in-block .ensures) (tested .if2 .left))
 
 pub step-block-spec : {M : Type 1} → statement M
 step-block-spec =

@@ -13,24 +13,24 @@ use Rattle.rules.proofs.refusing.lot.Tie as tie
 
 returns : tie.Need-returns
 unfolding firstOf entryRefusals isContinuous
-returns c = λ d D. simp (eq-eqb _ _ (c .if1 .taken))
+returns c = λ d D. ((λ same. omega arith), simp (eq-eqb _ _ (c .if1 .taken)))
 
 returns-2 : tie.Need-returns-2
 unfolding firstOf entryRefusals isContinuous
-returns-2 c = λ d D. simp (ne-eqb _ _ (c .before .before .if1 .left), ← c .before .is-discontinued .ensures, c .if2 .taken)
+returns-2 c = λ d D. ((λ same. omega arith), simp (ne-eqb _ _ (c .before .before .if1 .left), ← c .before .is-discontinued .ensures, c .if2 .taken))
 
 returns-3 : tie.Need-returns-3
 unfolding firstOf entryRefusals isContinuous isFull
 returns-3 c = λ d D.
     let lots = c .before .before .before in
-    simp (ne-eqb _ _ (lots .if1 .left), ← c .before .before .is-discontinued .ensures, c .before .if2 .left, le-leb _ _ (c .if3 .taken))
+    ((λ same. omega arith), simp (ne-eqb _ _ (lots .if1 .left), ← c .before .before .is-discontinued .ensures, c .before .if2 .left, le-leb _ _ (c .if3 .taken)))
 
 returns-4 : tie.Need-returns-4
 unfolding firstOf entryRefusals isContinuous isFull sameLabel
 returns-4 c = λ d D.
     let room = c .before .before in
     let running = room .before in
-    simp (ne-eqb _ _ (running .before .before .if1 .left), ← running .before .is-discontinued .ensures, running .if2 .left, lt-leb _ _ (room .if3 .left), ← c .before .is-same-label .ensures, c .if4 .taken)
+    ((λ same. omega arith), simp (ne-eqb _ _ (running .before .before .if1 .left), ← running .before .is-discontinued .ensures, running .if2 .left, lt-leb _ _ (room .if3 .left), ← c .before .is-same-label .ensures, c .if4 .taken))
 
 returns-5 : tie.Need-returns-5
 unfolding firstOf entryRefusals isContinuous isFull sameLabel
@@ -38,7 +38,7 @@ returns-5 c = λ d D.
     let label = c .before .before in
     let room = label .before .before in
     let running = room .before in
-    simp (ne-eqb _ _ (running .before .before .if1 .left), ← running .before .is-discontinued .ensures, running .if2 .left, lt-leb _ _ (room .if3 .left), ← label .before .is-same-label .ensures, label .if4 .left, ← c .before .is-size .ensures, not-true (c .before .is-size .result) (c .if5 .taken))
+    ((λ same. omega arith), simp (ne-eqb _ _ (running .before .before .if1 .left), ← running .before .is-discontinued .ensures, running .if2 .left, lt-leb _ _ (room .if3 .left), ← label .before .is-same-label .ensures, label .if4 .left, ← c .before .is-size .ensures, not-true (c .before .is-size .result) (c .if5 .taken)))
 
 sample-requires : tie.Need-sample-requires
 unfolding isContinuous
@@ -55,7 +55,7 @@ returns-6 c = λ d D.
     let label = size .before .before in
     let room = label .before .before in
     let running = room .before in
-    simp (ne-eqb _ _ (running .before .before .if1 .left), ← running .before .is-discontinued .ensures, running .if2 .left, lt-leb _ _ (room .if3 .left), ← label .before .is-same-label .ensures, label .if4 .left, ← size .before .is-size .ensures, not-false (size .before .is-size .result) (size .if5 .left), ← c .before .sample .ensures .0, ne-eqb _ _ (c .if6 .taken))
+    ((λ same. omega arith), simp (ne-eqb _ _ (running .before .before .if1 .left), ← running .before .is-discontinued .ensures, running .if2 .left, lt-leb _ _ (room .if3 .left), ← label .before .is-same-label .ensures, label .if4 .left, ← size .before .is-size .ensures, not-false (size .before .is-size .result) (size .if5 .left), ← c .before .sample .ensures .0, ne-eqb _ _ (c .if6 .taken)))
 
 returns-7 : tie.Need-returns-7
 unfolding firstOf entryRefusals isContinuous isFull sameLabel

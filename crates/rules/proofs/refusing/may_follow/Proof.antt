@@ -9,7 +9,7 @@ returns c = simp (← c .before .is-same-label .ensures, c .if1 .taken)
 
 returns-2 : tie.Need-returns-2
 unfolding mayFollow
-returns-2 c = simp (← c .before .before .is-same-label .ensures, c .before .if1 .left, ← c .within .ensures)
+returns-2 c = simp (← c .before .before .is-same-label .ensures, c .before .if1 .left, ← c .is-size-from .ensures)
 
 pub may-follow-spec : {M : Type 1} → statement M
 may-follow-spec = tie.close (tie.spec (λ c κs. search needs) returns (λ c κs. search needs) returns-2)

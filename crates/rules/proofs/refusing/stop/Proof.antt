@@ -13,11 +13,11 @@ use Rattle.rules.proofs.refusing.stop.Tie as tie
 
 returns : tie.Need-returns
 unfolding firstOf entryRefusals
-returns c = λ p why days. simp (← c .before .is-discontinued .ensures, c .if1 .taken)
+returns c = λ p why days. ((λ same. omega arith), simp (← c .before .is-discontinued .ensures, c .if1 .taken))
 
 returns-2 : tie.Need-returns-2
 unfolding firstOf entryRefusals isFull
-returns-2 c = λ p why days. simp (← c .before .before .is-discontinued .ensures, c .before .if1 .left, le-leb _ _ (c .if2 .taken))
+returns-2 c = λ p why days. ((λ same. omega arith), simp (← c .before .before .is-discontinued .ensures, c .before .if1 .left, le-leb _ _ (c .if2 .taken)))
 
 returns-3 : tie.Need-returns-3
 unfolding firstOf entryRefusals isFull
