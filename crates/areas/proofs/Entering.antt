@@ -21,7 +21,8 @@ use Rattle.model.specs.Figuring.{sampleAsked, stepped}
 use Rattle.model.specs.Calls.{Refusal, refuse, firstOf, entryRefusals, isFull, accepts, refused, entryAnswer}
 use Rattle.model.specs.Area.{recordOf, onArea}
 use Rattle.model.proofs.Booleans.{neither-of, never-both}
-use Rattle.rules.specs.Refusing.{UpToLast}
+use Rattle.rules.specs.Refusing.{lastOf, UpToLast}
+use Rattle.rules.proofs.UpToLast.{last-positive}
 use Rattle.replaying.specs.declared.Entered.{Entered}
 use Rattle.replaying.specs.Replaying.{Reached, tried, askedLot}
 use Rattle.replaying.proofs.Tried.{accepts-anywhere}
@@ -123,14 +124,14 @@ module _ {area : List ℕ} {s : Standing} {es : List Entry} (at : OpenedAt 0 are
         after = at .brought;
       }
 
-  module _ (e : Entry) (last : ℕ) {r : ℕ} (told : UpToLast (s .plan) (s .figures) (s .count) e last r) where
+  module _ (e : Entry) {r : ℕ} (told : UpToLast (s .plan) (s .figures) (s .count) e r) where
     -- an earlier refusal applies
     pub refused-first : {a : Answer} → (r ≡ 0 → ⊥) → a ≡ refused r → leaves a area ≡ onArea area (Enter e)
     refused-first applies given = enter-refused at e (sym (told .1 ∙ rw (ne-eqb r 0 applies))) applies given
 
     module _ (none : r ≡ 0) where
       -- only the last is left
-      pub last-left : firstOf (entryRefusals (s .plan) (s .figures) (s .count) e) ≡ cond (accepts (s .plan) (s .figures) (s .count) e) 0 last
+      pub last-left : firstOf (entryRefusals (s .plan) (s .figures) (s .count) e) ≡ cond (accepts (s .plan) (s .figures) (s .count) e) 0 (lastOf e)
       last-left = told .1 ∙ rw none
 
       module _ (room : s .count < mostRecords) {x : Entered} (made : x ≡ tried (s .plan) (s .figures) e) where
@@ -140,8 +141,9 @@ module _ {area : List ℕ} {s : Standing} {es : List Entry} (at : OpenedAt 0 are
             accepts-anywhere (s .plan) (s .figures) (s .count) e room ∙ sym (ap (λ (y : Entered). y .sound) made) ∙ is
 
         -- the step fails: the last applies
-        pub refused-last : {a : Answer} → 0 < last → x .sound ≡ false → a ≡ refused last → leaves a area ≡ onArea area (Enter e)
-        refused-last positive fails given = enter-refused at e (sym (last-left ∙ rw (accepted-as fails))) (λ z. omega arith) given
+        pub refused-last : {a : Answer} → x .sound ≡ false → a ≡ refused (lastOf e) → leaves a area ≡ onArea area (Enter e)
+        refused-last fails given =
+            enter-refused at e (sym (last-left ∙ rw (accepted-as fails))) (λ z. omega (arith, last-positive e)) given
 
         -- it does not: none applies, and the figures are those after the entry
         pub none-refused : x .sound ≡ true → firstOf (entryRefusals (s .plan) (s .figures) (s .count) e) ≡ 0

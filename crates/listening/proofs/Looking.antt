@@ -131,10 +131,10 @@ module _ (store : List ℕ) (stream : ℕ) where
         record { whole = lent .0; known = lent .1; reads = read-unopened newest (areaAt stream store) s (rw seen-area at seen) six }
 
     -- the refusals 1, 2, 3 and, for a call that is no Open, 6
-    pub look-refused : (c : Call) {r : Answer} → (s .refusal ≡ 6 → refusalOf unopened c ≡ 6) → (s .refusal ≡ 0 → ⊥) → r ≡ refused (s .refusal)
+    pub look-refused : (c : Call) (r : Answer) → (s .refusal ≡ 6 → refusalOf unopened c ≡ 6) → (s .refusal ≡ 0 → ⊥) → r ≡ refused (s .refusal)
         → keeps r store ≡ onStore store (on stream c)
     unfolding lookedAt nothingStands
-    look-refused c six some given = ap (λ (a : Answer). keeps a store) given ∙ go (eqb (storeRefusal (length store) stream) 0) refl seen
+    look-refused c r six some given = ap (λ (a : Answer). keeps a store) given ∙ go (eqb (storeRefusal (length store) stream) 0) refl seen
       where
         go : (b : Bool) → eqb (storeRefusal (length store) stream) 0 ≡ b
             → s ≡ cond b (standingOf newest (reading (areaAt stream store))) (nothingStands (storeRefusal (length store) stream))

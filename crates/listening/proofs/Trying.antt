@@ -1,29 +1,44 @@
--- A call that enters something, on the store: its own refusals up to the last, then the step of its plan, then the write. The four calls
--- differ in what is known where only the last refusal is left, and in what they give; the rest is said here once. Assumes nothing.
+-- A call that enters something, on the store, from facts in the code's own form: what is seen of the stream, its own refusals up to the
+-- last, the step of its plan, and the write. The laws of each kind of entry say the same of it; what they share is said first.
+-- Assumes nothing.
 use Prim.Native.Nat.{ℕ, _+_, _≤_, _<_}
 use mathlib.Core.Path.{_≡_, refl, ap, _∙_}
-use mathlib.Core.Bool.{true, false}
+use mathlib.Core.Bool.{Bool, true, false, not}
 use mathlib.Core.List.{List}
 use native.Mathlib.Omega.{arith}
+use borrow.Author.Tests.{not-true, not-false}
+use mir.Val.{Fits}
+use mir.Syntax.{w8}
+use lib.Dec.{T, eqb}
 use lib.ListN.{length}
 use Rattle.little.specs.Little.{written}
+use Rattle.plans.specs.Limits.{largestInterval}
+use Rattle.plans.specs.Verdicts.{acceptedOf}
+use Rattle.plans.specs.Continuous.{afterBlock}
+use Rattle.model.specs.declared.Plan.{Plan}
+use Rattle.model.specs.declared.Figures.{Figures}
 use Rattle.model.specs.declared.Entry.{Entry}
 use Rattle.model.specs.declared.Entry.the-variants.{Lot, Run, Block, Stop}
 use Rattle.model.specs.declared.Call.the-variants.{Enter}
 use Rattle.model.specs.declared.Answer.{Answer}
+use Rattle.model.specs.FigureBounds.{FiguresWithin}
 use Rattle.model.specs.Sizes.{mostRecords, streams, storeLength, startOf}
-use Rattle.model.specs.Stations.{isContinuous}
-use Rattle.model.specs.Figuring.{stepped}
-use Rattle.model.specs.Calls.{refused, firstOf, entryRefusals, entryAnswer}
-use Rattle.model.specs.Area.{recordOf}
+use Rattle.model.specs.Stations.{validPlan, isContinuous}
+use Rattle.model.specs.Figuring.{verdictOn, stepped}
+use Rattle.model.specs.Calls.{refused, gives, firstOf, entryRefusals, entryAnswer, lotFigure}
+use Rattle.model.specs.Area.{recordBytes, recordOf}
 use Rattle.model.specs.Store.{areaAt, onStore}
 use Rattle.model.specs.Claims.{on}
-use Rattle.rules.specs.Refusing.{UpToLast}
+use Rattle.model.proofs.Allowed.{AllowedBlock, allowed-lot, allowed-block, allowed-stop, plan-range}
+use Rattle.rules.specs.Refusing.{lastOf, UpToLast, LotUpToLast, RunUpToLast, BlockUpToLast, StopUpToLast}
+use Rattle.rules.proofs.Counts.{all-at-most}
 use Rattle.records.specs.Records.{LevelFits}
 use Rattle.replaying.specs.declared.Entered.{Entered}
 use Rattle.replaying.specs.Replaying.{Reached, tried, askedLot}
 use Rattle.replay.specs.declared.Standing.{Standing}
 use Rattle.areas.specs.Written.{rewritten}
+use Rattle.areas.proofs.OnReading.{read-plan, read-figures, read-count}
+use Rattle.areas.proofs.Outcomes.{lot-answer, run-answer, block-answer, stop-answer}
 use Rattle.areas.proofs.Entering.{
   LeftLot,
   LeftContinuous,
@@ -41,98 +56,246 @@ use Rattle.areas.proofs.Entering.{
   fits-after,
   entered-here,
 }
-use Rattle.listening.specs.Handed.{lookedAt}
+use Rattle.listening.specs.Handed.{lookedAt, MayWrite}
 use Rattle.listening.proofs.Looking.{keeps, OpenedIn, opened-in, on-kept, on-written}
+use Rattle.listening.proofs.Making.{shut-calls, seen-plan, seen-figures, seen-count}
 
 -- the stream is opened, and r is what its own refusals up to the last say of an entry
-pub record Told (store : List ℕ) (stream : ℕ) (s : Standing) (e : Entry) (last r : ℕ) : Type 0 where
-  pub opened : OpenedIn 0 store stream s
-  pub said : UpToLast (s .plan) (s .figures) (s .count) e last r
-
-pub told : {store : List ℕ} {stream : ℕ} {s : Standing} (e : Entry) (last : ℕ) {r : ℕ} → s ≡ lookedAt 0 stream store → s .refusal ≡ 0
-    → UpToLast (s .plan) (s .figures) (s .count) e last r → Told store stream s e last r
-told {store} {stream} {s} e last seen known said = record { opened = opened-in store stream 0 s seen known; said = said }
+pub record Told (store : List ℕ) (stream : ℕ) (s : Standing) (e : Entry) (r : ℕ) : Type 0 where
+  opened : OpenedIn 0 store stream s
+  said : UpToLast (s .plan) (s .figures) (s .count) e r
 
 -- one of them applies
-pub first-given : {store : List ℕ} {stream : ℕ} {s : Standing} {e : Entry} {last r : ℕ} {a : Answer} → Told store stream s e last r
-    → (r ≡ 0 → ⊥) → a ≡ refused r → keeps a store ≡ onStore store (on stream (Enter e))
-first-given {store} {stream} {s} {e} {last} t applies given =
-    on-kept store stream (t .opened .whole) (t .opened .known) (Enter e) (refused-first (t .opened .at) e last (t .said) applies given)
+pub first-given : (store : List ℕ) (stream : ℕ) (s : Standing) (e : Entry) (r : ℕ) (a : Answer) → s ≡ lookedAt 0 stream store → a ≡ refused r
+    → (r ≡ 0 → ⊥) → Told store stream s e r → keeps a store ≡ onStore store (on stream (Enter e))
+first-given store stream s e r a seen given applies t =
+    on-kept store stream (t .opened .whole) (t .opened .known) (Enter e) (refused-first (t .opened .at) e (t .said) applies given)
 
--- none does: what is known then, by the kind of entry
-module _ {store : List ℕ} {stream : ℕ} {s : Standing} {r : ℕ} (none : r ≡ 0) where
-  pub lot-left : {label N n d D : ℕ} → Told store stream s (Lot label N n d D) 13 r → LeftLot (s .plan) (s .figures) (s .count) N n
-  lot-left t = left-lot _ _ _ _ _ _ _ _ (last-left (t .opened .at) _ 13 (t .said) none)
+-- none does, and the entry is tried by the step of the plan
+pub record Tried (store : List ℕ) (stream : ℕ) (s : Standing) (e : Entry) (x : Entered) : Type 0 where
+  r : ℕ
+  told : Told store stream s e r
+  none : r ≡ 0
+  room : s .count < mostRecords
+  made : x ≡ tried (s .plan) (s .figures) e
 
-  pub run-left : {h w : ℕ} → Told store stream s (Run h w) 14 r → LeftContinuous (s .plan) (s .count) w
-  run-left t = left-run _ _ _ _ _ (last-left (t .opened .at) _ 14 (t .said) none)
+-- it fails: the last refusal is given
+pub last-given : (store : List ℕ) (stream : ℕ) (s : Standing) (e : Entry) (x : Entered) (a : Answer) → s ≡ lookedAt 0 stream store → a ≡ refused (lastOf e)
+    → not (x .sound) ≡ true → Tried store stream s e x → keeps a store ≡ onStore store (on stream (Enter e))
+last-given store stream s e x a seen given fails t =
+    let opened = t .told .opened in
+    on-kept store stream (opened .whole) (opened .known) (Enter e)
+    (refused-last (opened .at) e (t .told .said) (t .none) (t .room) (t .made) (not-true _ fails) given)
 
-  pub block-left : {q w : ℕ} → Told store stream s (Block q w) 14 r → LeftContinuous (s .plan) (s .count) w
-  block-left t = left-block _ _ _ _ _ (last-left (t .opened .at) _ 14 (t .said) none)
-
-  pub stop-left : {why days : ℕ} → Told store stream s (Stop why days) 15 r → s .count < mostRecords
-  stop-left t = left-stop _ _ _ _ _ (last-left (t .opened .at) _ 15 (t .said) none)
-
-pub reached : {store : List ℕ} {stream : ℕ} {s : Standing} {e : Entry} {last r : ℕ} → Told store stream s e last r → s .count < mostRecords
-    → Reached (s .plan) (s .figures)
-reached t room = reached-here (t .opened .at) room
-
--- then the entry is tried by the step of the plan
-pub record Tried (store : List ℕ) (stream : ℕ) (s : Standing) (e : Entry) (last : ℕ) (x : Entered) : Type 0 where
-  pub r : ℕ
-  pub before : Told store stream s e last r
-  pub none : r ≡ 0
-  pub room : s .count < mostRecords
-  pub made : x ≡ tried (s .plan) (s .figures) e
-
-module _ {store : List ℕ} {stream : ℕ} {s : Standing} {r : ℕ} {x : Entered} (none : r ≡ 0) where
-  pub lot-tried : {label N n d D : ℕ} → Told store stream s (Lot label N n d D) 13 r
-      → x ≡ tried (s .plan) (s .figures) (askedLot (s .plan) (s .figures) label N d D) → Tried store stream s (Lot label N n d D) 13 x
-  lot-tried t made =
-      let left = lot-left none t in
-      record { r = r; before = t; none = none; room = left .room; made = made ∙ ap (tried _ _) (lot-asked _ _ _ _ _ _ _ (left .sample)) }
-
-  pub run-tried : {h w : ℕ} → Told store stream s (Run h w) 14 r → x ≡ tried (s .plan) (s .figures) (Run h w)
-      → Tried store stream s (Run h w) 14 x
-  run-tried t made = record { r = r; before = t; none = none; room = run-left none t .room; made = made }
-
-  pub block-tried : {q w : ℕ} → Told store stream s (Block q w) 14 r → x ≡ tried (s .plan) (s .figures) (Block q w)
-      → Tried store stream s (Block q w) 14 x
-  block-tried t made = record { r = r; before = t; none = none; room = block-left none t .room; made = made }
-
-  pub stop-tried : {why days : ℕ} → Told store stream s (Stop why days) 15 r → x ≡ tried (s .plan) (s .figures) (Stop why days)
-      → Tried store stream s (Stop why days) 15 x
-  stop-tried t made = record { r = r; before = t; none = none; room = stop-left none t; made = made }
-
-module _ {store : List ℕ} {stream : ℕ} {s : Standing} {e : Entry} {last : ℕ} {x : Entered} (t : Tried store stream s e last x) where
+-- it does not: no refusal applies, and what changed is written
+module _ {store : List ℕ} {stream : ℕ} {s : Standing} {e : Entry} {x : Entered} (t : Tried store stream s e x) (stands : not (x .sound) ≡ false) where
   opened : OpenedIn 0 store stream s
-  opened = t .before .opened
+  opened = t .told .opened
 
-  -- the step fails: the last refusal is given
-  pub last-given : {a : Answer} → 0 < last → x .sound ≡ false → a ≡ refused last → keeps a store ≡ onStore store (on stream (Enter e))
-  last-given positive fails given =
-      on-kept store stream (opened .whole) (opened .known) (Enter e)
-      (refused-last (opened .at) e last (t .before .said) (t .none) (t .room) (t .made) positive fails given)
+  none-given : firstOf (entryRefusals (s .plan) (s .figures) (s .count) e) ≡ 0
+  none-given = none-refused (opened .at) e (t .told .said) (t .none) (t .room) (t .made) (not-false _ stands)
 
-  module _ (stands : x .sound ≡ true) where
-    -- it does not: no refusal applies, and what changed is written
-    pub none-given : firstOf (entryRefusals (s .plan) (s .figures) (s .count) e) ≡ 0
-    none-given = none-refused (opened .at) e last (t .before .said) (t .none) (t .room) (t .made) stands
+  after : x .figures ≡ stepped (s .plan) e (s .figures)
+  after = figures-after (opened .at) e (t .told .said) (t .none) (t .room) (t .made) (not-false _ stands)
 
-    pub after : x .figures ≡ stepped (s .plan) e (s .figures)
-    after = figures-after (opened .at) e last (t .before .said) (t .none) (t .room) (t .made) stands
+  may-put : MayWrite store stream (s .count) (x .figures)
+  may-put =
+      record {
+        whole = opened .whole;
+        known = opened .known;
+        room = t .room;
+        fits = fits-after (opened .at) e (t .told .said) (t .none) (t .room) (t .made) (not-false _ stands);
+      }
 
-    pub may-put : (length store ≡ storeLength) × (stream < streams) × (s .count < mostRecords) × LevelFits (x .figures .level)
-    may-put = (
-      opened .whole,
-      opened .known,
-      t .room,
-      fits-after (opened .at) e last (t .before .said) (t .none) (t .room) (t .made) stands,
-    )
+  put : {a : Answer} {then : List ℕ} → a ≡ entryAnswer (s .plan) (s .figures) e
+      → then ≡ written (startOf stream) (rewritten (s .count) (recordOf e) (s .count + 1) (x .figures) (areaAt stream store)) store
+      → keeps a then ≡ onStore store (on stream (Enter e))
+  put given wrote =
+      on-written store stream (opened .whole) (opened .known) (Enter e)
+      (entered-here (opened .at) e (t .told .said) (t .none) (t .room) (t .made) (not-false _ stands) given refl) wrote
 
-    pub put : {a : Answer} {then : List ℕ} → a ≡ entryAnswer (s .plan) (s .figures) e
-        → then ≡ written (startOf stream) (rewritten (s .count) (recordOf e) (s .count + 1) (x .figures) (areaAt stream store)) store
-        → keeps a then ≡ onStore store (on stream (Enter e))
-    put given wrote =
-        on-written store stream (opened .whole) (opened .known) (Enter e)
-        (entered-here (opened .at) e last (t .before .said) (t .none) (t .room) (t .made) stands given refl) wrote
+-- ---- a lot
+module _ (store : List ℕ) (stream : ℕ) (s : Standing) (label N n r : ℕ) (seen : s ≡ lookedAt 0 stream store) (known : s .refusal ≡ 0)
+    (said : LotUpToLast (s .plan) (s .figures) (s .count) label N n r) where
+  pub lot-told : (d D : ℕ) → Told store stream s (Lot label N n d D) r
+  unfolding LotUpToLast
+  lot-told d D = record { opened = opened-in store stream 0 s seen known; said = said d D }
+
+  module _ (none : r ≡ 0) where
+    lot-left : LeftLot (s .plan) (s .figures) (s .count) N n
+    lot-left = let t = lot-told 0 0 in left-lot _ _ _ label N n 0 0 (last-left (t .opened .at) _ (t .said) none)
+
+    pub lot-reached : Reached (s .plan) (s .figures)
+    lot-reached = reached-here (lot-told 0 0 .opened .at) (lot-left .room)
+
+    pub lot-kind : isContinuous (s .plan) ≡ false
+    lot-kind = lot-left .lots
+
+    module _ (d D : ℕ) (x : Entered) (made : x ≡ tried (s .plan) (s .figures) (askedLot (s .plan) (s .figures) label N d D)) where
+      pub lot-tried : Tried store stream s (Lot label N n d D) x
+      lot-tried =
+          record {
+            r = r;
+            told = lot-told d D;
+            none = none;
+            room = lot-left .room;
+            made = made ∙ ap (tried _ _) (lot-asked _ _ _ _ _ _ _ (lot-left .sample));
+          }
+
+      module _ (stands : not (x .sound) ≡ false) where
+        pub lot-put : MayWrite store stream (s .count) (x .figures)
+        lot-put = may-put lot-tried stands
+
+        pub lot-entered : (a : Answer) (then : List ℕ)
+            → a ≡ gives (verdictOn (s .plan) (s .figures) d) (acceptedOf (verdictOn (s .plan) (s .figures) d) N D) (lotFigure (s .plan) (x .figures))
+            → then ≡ written (startOf stream) (rewritten (s .count) (recordBytes 1 0 label N d D) (s .count + 1) (x .figures) (areaAt stream store)) store
+            → keeps a then ≡ onStore store (on stream (Enter (Lot label N n d D)))
+        unfolding recordOf
+        lot-entered a then given = put lot-tried stands (lot-answer (opened lot-tried stands .at) _ _ _ _ _ (after lot-tried stands) given)
+
+pub lot-heard : (store : List ℕ) (stream : ℕ) (s : Standing) (label N n d D r : ℕ) (x : Entered)
+    → x ≡ tried (s .plan) (s .figures) (askedLot (s .plan) (s .figures) label N d D) → not (x .sound) ≡ false
+    → LotUpToLast (s .plan) (s .figures) (s .count) label N n r → r ≡ 0 → s ≡ lookedAt 0 stream store → s .refusal ≡ 0 → D ≤ N
+lot-heard store stream s label N n d D r x made stands said none seen known =
+    let t = lot-tried store stream s label N n r seen known said none d D x made in
+    all-at-most _ _ _ _ _ _ _ _ (allowed-lot _ _ _ _ _ _ _ _ (none-given t stands))
+
+-- what a run's or block's flag is known to be
+pub flag-fits : (w : ℕ) → w ≤ 1 → Fits w8 w
+flag-fits w few = record { fits = omega arith }
+
+-- ---- a run
+module _ (store : List ℕ) (stream : ℕ) (s : Standing) (h w r : ℕ) (seen : s ≡ lookedAt 0 stream store) (known : s .refusal ≡ 0)
+    (said : RunUpToLast (s .plan) (s .count) h w r) where
+  pub run-told : Told store stream s (Run h w) r
+  unfolding RunUpToLast
+  run-told = record { opened = opened-in store stream 0 s seen known; said = said (s .figures) }
+
+  module _ (none : r ≡ 0) where
+    run-left : LeftContinuous (s .plan) (s .count) w
+    run-left = left-run _ _ _ h w (last-left (run-told .opened .at) _ (run-told .said) none)
+
+    pub run-reached : Reached (s .plan) (s .figures)
+    run-reached = reached-here (run-told .opened .at) (run-left .room)
+
+    pub run-kind : s .plan .kind ≡ 3
+    run-kind = run-left .kind
+
+    pub run-wrong : w ≤ 1
+    run-wrong = run-left .wrong
+
+    module _ (x : Entered) (made : x ≡ tried (s .plan) (s .figures) (Run h w)) where
+      pub run-tried : Tried store stream s (Run h w) x
+      run-tried = record { r = r; told = run-told; none = none; room = run-left .room; made = made }
+
+      module _ (stands : not (x .sound) ≡ false) where
+        pub run-put : MayWrite store stream (s .count) (x .figures)
+        run-put = may-put run-tried stands
+
+        pub run-entered : (a : Answer) (then : List ℕ) → a ≡ gives h (x .figures .continuous .phase) 0
+            → then ≡ written (startOf stream) (rewritten (s .count) (recordBytes 2 w h 0 0 0) (s .count + 1) (x .figures) (areaAt stream store)) store
+            → keeps a then ≡ onStore store (on stream (Enter (Run h w)))
+        unfolding recordOf
+        run-entered a then given = put run-tried stands (run-answer (opened run-tried stands .at) h w (after run-tried stands) given)
+
+-- ---- a block
+module _ (store : List ℕ) (stream : ℕ) (s : Standing) (q w r : ℕ) (seen : s ≡ lookedAt 0 stream store) (known : s .refusal ≡ 0)
+    (said : BlockUpToLast (s .plan) (s .count) q w r) where
+  pub block-told : Told store stream s (Block q w) r
+  unfolding BlockUpToLast
+  block-told = record { opened = opened-in store stream 0 s seen known; said = said (s .figures) }
+
+  module _ (none : r ≡ 0) where
+    block-left : LeftContinuous (s .plan) (s .count) w
+    block-left = left-block _ _ _ q w (last-left (block-told .opened .at) _ (block-told .said) none)
+
+    pub block-reached : Reached (s .plan) (s .figures)
+    block-reached = reached-here (block-told .opened .at) (block-left .room)
+
+    pub block-kind : s .plan .kind ≡ 3
+    block-kind = block-left .kind
+
+    pub block-wrong : w ≤ 1
+    block-wrong = block-left .wrong
+
+    module _ (x : Entered) (made : x ≡ tried (s .plan) (s .figures) (Block q w)) where
+      pub block-tried : Tried store stream s (Block q w) x
+      block-tried = record { r = r; told = block-told; none = none; room = block-left .room; made = made }
+
+      module _ (stands : not (x .sound) ≡ false) where
+        block-allowed : AllowedBlock (s .plan) (s .figures) (s .count) q w
+        block-allowed = allowed-block _ _ _ q w (none-given block-tried stands)
+
+        pub block-from : 1 ≤ q
+        block-from = block-allowed .first
+
+        pub block-to : q ≤ s .plan .b
+        block-to = block-allowed .last
+
+        pub block-interval : s .plan .b ≤ largestInterval
+        block-interval = omega (arith, plan-range _ (read-plan (opened block-tried stands .at)))
+
+        pub block-put : MayWrite store stream (s .count) (x .figures)
+        block-put = may-put block-tried stands
+
+        pub block-entered : (a : Answer) (then : List ℕ)
+            → a ≡ gives (afterBlock (s .plan .b) q (eqb w 1) (s .figures .continuous) .accepted)
+            (afterBlock (s .plan .b) q (eqb w 1) (s .figures .continuous) .«hear_back») (x .figures .continuous .phase)
+            → then ≡ written (startOf stream) (rewritten (s .count) (recordBytes 3 w q 0 0 0) (s .count + 1) (x .figures) (areaAt stream store)) store
+            → keeps a then ≡ onStore store (on stream (Enter (Block q w)))
+        unfolding recordOf
+        block-entered a then given = put block-tried stands (block-answer (opened block-tried stands .at) q w (after block-tried stands) given)
+
+-- ---- a stop
+module _ (store : List ℕ) (stream : ℕ) (s : Standing) (r : ℕ) (seen : s ≡ lookedAt 0 stream store) (known : s .refusal ≡ 0)
+    (said : StopUpToLast (s .figures) (s .count) r) where
+  pub stop-told : (why days : ℕ) → Told store stream s (Stop why days) r
+  unfolding StopUpToLast
+  stop-told why days = record { opened = opened-in store stream 0 s seen known; said = said (s .plan) why days }
+
+  module _ (none : r ≡ 0) where
+    stop-room : s .count < mostRecords
+    stop-room = let t = stop-told 0 0 in left-stop _ _ _ 0 0 (last-left (t .opened .at) _ (t .said) none)
+
+    pub stop-reached : Reached (s .plan) (s .figures)
+    stop-reached = reached-here (stop-told 0 0 .opened .at) stop-room
+
+    module _ (why days : ℕ) (x : Entered) (made : x ≡ tried (s .plan) (s .figures) (Stop why days)) where
+      pub stop-tried : Tried store stream s (Stop why days) x
+      stop-tried = record { r = r; told = stop-told why days; none = none; room = stop-room; made = made }
+
+      module _ (stands : not (x .sound) ≡ false) where
+        pub stop-why : Fits w8 why
+        stop-why = record { fits = omega (arith, allowed-stop _ _ _ why days (none-given stop-tried stands) .last) }
+
+        pub stop-put : MayWrite store stream (s .count) (x .figures)
+        stop-put = may-put stop-tried stands
+
+        pub stop-entered : (a : Answer) (then : List ℕ) → a ≡ gives 0 0 0
+            → then ≡ written (startOf stream) (rewritten (s .count) (recordBytes 4 why days 0 0 0) (s .count + 1) (x .figures) (areaAt stream store)) store
+            → keeps a then ≡ onStore store (on stream (Enter (Stop why days)))
+        unfolding recordOf
+        stop-entered a then given = put stop-tried stands (stop-answer (opened stop-tried stands .at) why days given)
+
+pub ruleset entered = (shut-calls, first-given, last-given)
+
+pub ruleset lots = (entered, seen-plan, seen-figures, seen-count, lot-told, lot-tried, lot-reached, lot-kind, lot-heard, lot-put, lot-entered)
+
+pub ruleset runs = (entered, run-told, run-tried, run-reached, run-kind, run-wrong, flag-fits, run-put, run-entered)
+
+pub ruleset blocks = (
+  entered,
+  block-told,
+  block-tried,
+  block-reached,
+  block-kind,
+  block-wrong,
+  flag-fits,
+  block-from,
+  block-to,
+  block-interval,
+  block-put,
+  block-entered,
+)
+
+pub ruleset stops = (entered, stop-told, stop-tried, stop-reached, stop-why, stop-put, stop-entered)

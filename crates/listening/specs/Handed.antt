@@ -1,15 +1,18 @@
 -- What the calls' functions hand to one another: Open's arguments, the refusals before the area is looked at, what a call sees of a
 -- stream, and an answer in two words. Assumes nothing.
-use Prim.Native.Nat.{ℕ, _%_, _/_}
+use Prim.Native.Nat.{ℕ, _<_, _%_, _/_}
+use mathlib.Core.Path.{_≡_}
 use mathlib.Core.Bool.{cond, not}
 use mathlib.Core.List.{List}
 use lib.Dec.{eqb, leb}
 use lib.ListN.{length}
 use Rattle.model.specs.declared.Answer.{Answer}
 use Rattle.model.specs.declared.Plan.{Plan}
-use Rattle.model.specs.Sizes.{streams, storeLength}
+use Rattle.model.specs.declared.Figures.{Figures}
+use Rattle.model.specs.Sizes.{mostRecords, streams, storeLength}
 use Rattle.model.specs.Area.{reading}
 use Rattle.model.specs.Store.{areaAt}
+use Rattle.records.specs.Records.{LevelFits}
 use Rattle.replay.specs.declared.Standing.{Standing}
 use Rattle.replay.specs.Standing.{nothingStands, standingOf}
 use Rattle.listening.specs.declared.words.Words.{Words}
@@ -27,6 +30,14 @@ unfoldable pub lookedAt : ℕ → ℕ → List ℕ → Standing
 lookedAt newest stream store =
     cond (eqb (storeRefusal (length store) stream) 0) (standingOf newest (reading (areaAt stream store)))
     (nothingStands (storeRefusal (length store) stream))
+
+-- what a write in a stream's area asks: the store is whole, the stream is one of its own, there is a record with that number, and the
+-- level figures are bytes
+pub record MayWrite (store : List ℕ) (stream i : ℕ) (f : Figures) : Type 0 where
+  pub whole : length store ≡ storeLength
+  pub known : stream < streams
+  pub room : i < mostRecords
+  pub fits : LevelFits (f .level)
 
 -- the answer in two words
 unfoldable pub answerIn : Words → Answer

@@ -12,14 +12,14 @@ ghost use lib.ListN.{length};
 ghost use Rattle.little.specs.Little.{written};
 ghost use Rattle.model.specs.declared.Entry.the-variants.{Lot, Run, Block, Stop};
 ghost use Rattle.model.specs.declared.Call.the-variants.{Open, Enter, Back, Ask, Read};
-ghost use Rattle.model.specs.Sizes.{recordLength, mostRecords, streams, storeLength, startOf};
+ghost use Rattle.model.specs.Sizes.{recordLength, streams, storeLength, startOf};
 ghost use Rattle.model.specs.Stations.{validPlan};
 ghost use Rattle.model.specs.Area.{zeros, recordBytes};
 ghost use Rattle.model.specs.Store.{areaAt, onStore};
 ghost use Rattle.model.specs.Claims.{on};
-ghost use Rattle.records.specs.Records.{recordIn, recordAt, LevelFits};
+ghost use Rattle.records.specs.Records.{recordIn, recordAt};
 ghost use Rattle.areas.specs.Written.{openedWith, rewritten};
-ghost use Rattle.listening.specs.Handed.{planOf, storeRefusal, lookedAt};
+ghost use Rattle.listening.specs.Handed.{planOf, storeRefusal, lookedAt, MayWrite};
 use model::Answer;
 use model::Call;
 use model::Entry;
@@ -97,7 +97,7 @@ fn enter_lot(
     if refusal != 0 {
         return answering::refused(refusal);
     }
-    let tried = replay::step_lot(plan, before, label, size, wrong, wrong_in_all);
+    let tried = replay::enter_lot(plan, before, label, size, wrong, wrong_in_all);
     if !tried.sound {
         return answering::refused(COUNTS_DISAGREE);
     }
@@ -219,7 +219,7 @@ fn enter_stop(store: &mut [u8], stream: u32, why: u32, days: u32) -> Answer
     if refusal != 0 {
         return answering::refused(refusal);
     }
-    let tried = replay::step_stop(standing.plan, standing.figures, why, days);
+    let tried = replay::enter_stop(standing.plan, standing.figures, why, days);
     if !tried.sound {
         return answering::refused(OUT_OF_RANGE);
     }
@@ -354,7 +354,7 @@ fn put_entry(
     d: u32,
     figures: Figures,
 )
-    requires { ⌜ (length (now store) ≡ storeLength) × (stream < streams) × (count < mostRecords) × LevelFits (figures .level) ⌝ }
+    requires { ⌜ MayWrite (now store) stream count figures ⌝ }
     ensures { λ _. ⌜ now (store .exit) ≡ written (startOf stream) (rewritten count (recordBytes kind flag a b c d) (count + 1) figures (areaAt stream (now (store .entry)))) (now (store .entry)) ⌝ }
 {
     let start = start_of(stream);
@@ -374,7 +374,7 @@ fn put_entry(
 
 // And for one less; gives its kind.
 fn take_entry(store: &mut [u8], stream: u32, last: usize, figures: Figures) -> u32
-    requires { ⌜ (length (now store) ≡ storeLength) × (stream < streams) × (last < mostRecords) × LevelFits (figures .level) ⌝ }
+    requires { ⌜ MayWrite (now store) stream last figures ⌝ }
     ensures { λ r. ⌜ (r ≡ recordIn (recordAt (areaAt stream (now (store .entry))) last) .kind) × (now (store .exit) ≡ written (startOf stream) (rewritten last (zeros recordLength) last figures (areaAt stream (now (store .entry)))) (now (store .entry))) ⌝ }
 {
     let start = start_of(stream);

@@ -47,7 +47,7 @@ pub fn replay(area: &[u8], plan: Plan, figures: Figures, from: usize, to: usize)
 }
 
 // A lot more on a stream's figures, by the step of its plan: whether it could stand, and the figures after it.
-pub fn step_lot(
+pub fn enter_lot(
     plan: Plan,
     figures: Figures,
     label: u32,
@@ -65,7 +65,7 @@ pub fn step_lot(
 }
 
 // The same of a stop. Runs and blocks are entered on continuous streams alone (`replay_continuous::enter_run` and `enter_block`).
-pub fn step_stop(plan: Plan, figures: Figures, why: u32, days: u32) -> Entered
+pub fn enter_stop(plan: Plan, figures: Figures, why: u32, days: u32) -> Entered
     requires { ⌜ Reached plan figures ⌝ }
     ensures { λ r. ⌜ r ≡ tried plan figures (Stop why days) ⌝ }
 {

@@ -7,15 +7,22 @@ use lib.Dec.{eqb}
 use borrow.Author.Tests.{ne-eqb}
 use Rattle.model.specs.declared.Plan.{Plan}
 use Rattle.model.specs.declared.Entry.{Entry}
+use Rattle.model.specs.declared.Entry.the-variants.{Lot, Run, Block, Stop}
 use Rattle.model.specs.declared.Figures.{Figures}
 use Rattle.model.specs.Calls.{firstOf, entryRefusals, accepts}
-use Rattle.rules.specs.Refusing.{UpToLast}
+use Rattle.rules.specs.Refusing.{lastOf, UpToLast}
 
-pub last-alone : (p : Plan) (f : Figures) (count : ℕ) (e : Entry) (n : ℕ) (applies : Bool) → 0 < n
-    → firstOf (entryRefusals p f count e) ≡ cond applies n 0 → UpToLast p f count e n 0
+pub last-positive : (e : Entry) → 0 < lastOf e
+last-positive (Lot label N n d D) = omega arith
+last-positive (Run h w) = omega arith
+last-positive (Block q w) = omega arith
+last-positive (Stop why days) = omega arith
+
+pub last-alone : (p : Plan) (f : Figures) (count : ℕ) (e : Entry) (applies : Bool)
+    → firstOf (entryRefusals p f count e) ≡ cond applies (lastOf e) 0 → UpToLast p f count e 0
 unfolding accepts
-last-alone p f count e n applies positive same = ((λ z. omega arith), rw same (go applies))
+last-alone p f count e applies same = ((λ z. omega (arith, last-positive e)), rw same (go applies))
   where
-    go : (b : Bool) → cond b n 0 ≡ cond (eqb (cond b n 0) 0) 0 n
-    go true = rw (ne-eqb n 0 (λ z. omega arith))
+    go : (b : Bool) → cond b (lastOf e) 0 ≡ cond (eqb (cond b (lastOf e) 0) 0) 0 (lastOf e)
+    go true = rw (ne-eqb (lastOf e) 0 (λ z. omega (arith, last-positive e)))
     go false = refl

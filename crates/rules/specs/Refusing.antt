@@ -6,15 +6,35 @@ use lib.Dec.{eqb, leb}
 use Rattle.plans.specs.Limits.{largestLot, longestStop}
 use Rattle.model.specs.declared.Plan.{Plan}
 use Rattle.model.specs.declared.Entry.{Entry}
+use Rattle.model.specs.declared.Entry.the-variants.{Lot, Run, Block, Stop}
 use Rattle.model.specs.declared.Figures.{Figures}
 use Rattle.model.specs.Stations.{within}
 use Rattle.model.specs.Calls.{firstOf, entryRefusals, accepts}
 
--- r is the first that applies of an entry's refusals but for the last in the list, or 0: then it is refused by the last where it is not
--- accepted
-abbrev pub UpToLast : Plan → Figures → ℕ → Entry → ℕ → ℕ → Type 0
-UpToLast p f count e last r =
-    (r ≡ last → ⊥) × (firstOf (entryRefusals p f count e) ≡ cond (eqb r 0) (cond (accepts p f count e) 0 last) r)
+-- the last refusal in an entry's list: it is given where the step of the plan fails
+abbrev pub lastOf : Entry → ℕ
+lastOf (Lot label N n d D) = 13
+lastOf (Run h w) = 14
+lastOf (Block q w) = 14
+lastOf (Stop why days) = 15
+
+-- r is the first that applies of an entry's other refusals, or 0: then it is refused by the last where it is not accepted
+abbrev pub UpToLast : Plan → Figures → ℕ → Entry → ℕ → Type 0
+UpToLast p f count e r =
+    (r ≡ lastOf e → ⊥) × (firstOf (entryRefusals p f count e) ≡ cond (eqb r 0) (cond (accepts p f count e) 0 (lastOf e)) r)
+
+-- the same of each kind of entry, whatever the numbers that none but the last looks at
+unfoldable pub LotUpToLast : Plan → Figures → ℕ → ℕ → ℕ → ℕ → ℕ → Type 0
+LotUpToLast p f count label N n r = (d D : ℕ) → UpToLast p f count (Lot label N n d D) r
+
+unfoldable pub RunUpToLast : Plan → ℕ → ℕ → ℕ → ℕ → Type 0
+RunUpToLast p count h w r = (f : Figures) → UpToLast p f count (Run h w) r
+
+unfoldable pub BlockUpToLast : Plan → ℕ → ℕ → ℕ → ℕ → Type 0
+BlockUpToLast p count q w r = (f : Figures) → UpToLast p f count (Block q w) r
+
+unfoldable pub StopUpToLast : Figures → ℕ → ℕ → Type 0
+StopUpToLast f count r = (p : Plan) (why days : ℕ) → UpToLast p f count (Stop why days) r
 
 -- what 10 and 11 leave of a lot: another label than the newest lot's, and a size from the least
 unfoldable pub mayFollow : ℕ → ℕ → ℕ → ℕ → Bool

@@ -3,18 +3,15 @@
 // The tests that the steps share stand below.
 ghost use mathlib.Core.Path.{_≡_};
 ghost use mathlib.Core.Bool.{not, _&&_, _||_};
-ghost use Prim.Native.Nat.{ℕ, _+_, _-_, _≤_};
+ghost use Prim.Native.Nat.{_+_, _-_, _≤_};
 ghost use Rattle.plans.specs.Limits.{largestLot};
 ghost use Rattle.plans.specs.Verdicts.{lotHeard, lotWithheld};
 ghost use lib.Dec.{T, eqb};
-ghost use Rattle.model.specs.declared.Plan.{Plan};
-ghost use Rattle.model.specs.declared.Figures.{Figures};
-ghost use Rattle.model.specs.declared.Entry.the-variants.{Lot, Run, Block, Stop};
 ghost use Rattle.model.specs.Sizes.{mostRecords};
 ghost use Rattle.model.specs.Stations.{validPlan, within, isLevel};
 ghost use Rattle.model.specs.Calls.{firstOf, askRefusals, isDiscontinued, sizeInRange, countsAgree};
 ghost use Rattle.model.specs.FigureBounds.{FiguresWithin};
-ghost use Rattle.rules.specs.Refusing.{UpToLast, mayFollow, isStop};
+ghost use Rattle.rules.specs.Refusing.{LotUpToLast, RunUpToLast, BlockUpToLast, StopUpToLast, mayFollow, isStop};
 use crate::asking;
 use crate::plan;
 use model::Figures;
@@ -28,7 +25,7 @@ use plans::verdict;
 // The refusal of a lot, up to 12.
 pub fn lot(plan: Plan, figures: Figures, count: usize, label: u32, size: u32, sample: u32) -> u32
     requires { ⌜ T (validPlan plan) × FiguresWithin count figures × (count ≤ mostRecords) ⌝ }
-    ensures { λ r. ⌜ ((d D : ℕ) → UpToLast plan figures count (Lot label size sample d D) 13 r) ⌝ }
+    ensures { λ r. ⌜ LotUpToLast plan figures count label size sample r ⌝ }
 {
     if plan.kind == plan::CONTINUOUS {
         return 7;
@@ -53,7 +50,7 @@ pub fn lot(plan: Plan, figures: Figures, count: usize, label: u32, size: u32, sa
 
 // The refusal of a run, up to 15.
 pub fn run(plan: Plan, count: usize, right: u32, wrong: u32) -> u32
-    ensures { λ r. ⌜ ((f : Figures) → UpToLast plan f count (Run right wrong) 14 r) ⌝ }
+    ensures { λ r. ⌜ RunUpToLast plan count right wrong r ⌝ }
 {
     if plan.kind != plan::CONTINUOUS {
         return 7;
@@ -75,7 +72,7 @@ pub fn run(plan: Plan, count: usize, right: u32, wrong: u32) -> u32
 
 // The refusal of a block, up to 15.
 pub fn block(plan: Plan, count: usize, heard: u32, wrong: u32) -> u32
-    ensures { λ r. ⌜ ((f : Figures) → UpToLast plan f count (Block heard wrong) 14 r) ⌝ }
+    ensures { λ r. ⌜ BlockUpToLast plan count heard wrong r ⌝ }
 {
     if plan.kind != plan::CONTINUOUS {
         return 7;
@@ -94,7 +91,7 @@ pub fn block(plan: Plan, count: usize, heard: u32, wrong: u32) -> u32
 
 // The refusal of a stop, up to 9.
 pub fn stop(figures: Figures, count: usize) -> u32
-    ensures { λ r. ⌜ ((p : Plan) (why days : ℕ) → UpToLast p figures count (Stop why days) 15 r) ⌝ }
+    ensures { λ r. ⌜ StopUpToLast figures count r ⌝ }
 {
     if is_discontinued(figures) {
         return 8;

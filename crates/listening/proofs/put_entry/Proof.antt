@@ -10,9 +10,9 @@ returns : tie.Need-returns
 returns c =
     let start = c .before .before .before .before in
     let called = start .before .before in
-    let whole = length-area-at _ _ (called .pre .0) (called .pre .1) in
+    let whole = length-area-at _ _ (called .pre .whole) (called .pre .known) in
     rw (c .before .before .put-entry .ensures, part-lent _ _ (start .start-of .ensures))
-    (part-back _ _ (start .start-of .ensures) _ (length-rewritten _ _ _ _ _ (called .pre .2) (length-record-bytes _ _ _ _ _ _) whole))
+    (part-back _ _ (start .start-of .ensures) _ (length-rewritten _ _ _ _ _ (called .pre .room) (length-record-bytes _ _ _ _ _ _) whole))
 
 pub put-entry-spec : {M : Type 1} → statement M
 put-entry-spec =

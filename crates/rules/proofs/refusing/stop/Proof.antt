@@ -7,22 +7,23 @@ use Rattle.plans.specs.Limits.{longestStop}
 use Rattle.model.specs.Stations.{within}
 use native.Mathlib.Omega.{arith}
 use borrow.Author.Tests.{le-leb, lt-leb}
+use Rattle.rules.specs.Refusing.{StopUpToLast}
 use borrow.Author.Needs.{needs}
 use Rattle.rules.proofs.refusing.stop.Statement.{statement}
 use Rattle.rules.proofs.refusing.stop.Tie as tie
 
 returns : tie.Need-returns
-unfolding firstOf entryRefusals
+unfolding StopUpToLast firstOf entryRefusals
 returns c = λ p why days. ((λ same. omega arith), simp (← c .before .is-discontinued .ensures, c .if1 .taken))
 
 returns-2 : tie.Need-returns-2
-unfolding firstOf entryRefusals isFull
+unfolding StopUpToLast firstOf entryRefusals isFull
 returns-2 c = λ p why days. ((λ same. omega arith), simp (← c .before .before .is-discontinued .ensures, c .before .if1 .left, le-leb _ _ (c .if2 .taken)))
 
 returns-3 : tie.Need-returns-3
-unfolding firstOf entryRefusals isFull
+unfolding StopUpToLast firstOf entryRefusals isFull
 returns-3 c = λ p why days.
-    last-alone p _ _ _ 15 (not (within 1 2 why) || ltb longestStop days || (eqb why 2 && ltb 0 days)) (omega arith)
+    last-alone p _ _ _ (not (within 1 2 why) || ltb longestStop days || (eqb why 2 && ltb 0 days))
     (simp (← c .before .before .is-discontinued .ensures, c .before .if1 .left, lt-leb _ _ (c .if2 .left)))
 
 pub stop-spec : {M : Type 1} → statement M

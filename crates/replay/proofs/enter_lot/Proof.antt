@@ -4,8 +4,8 @@ use borrow.Author.Tests.{eqb-false}
 use Rattle.model.specs.Stations.{isContinuous}
 use Rattle.model.proofs.Allowed.{plan-range}
 use borrow.Author.Needs.{needs}
-use Rattle.replay.proofs.step_lot.Statement.{statement}
-use Rattle.replay.proofs.step_lot.Tie as tie
+use Rattle.replay.proofs.enter_lot.Statement.{statement}
+use Rattle.replay.proofs.enter_lot.Tie as tie
 
 enter-lot-requires-2 : tie.Need-enter-lot-requires-2
 unfolding isContinuous
@@ -14,5 +14,5 @@ enter-lot-requires-2 c κs =
     let lots = eqb-false (c .before .before .args .plan .kind) 3 (pre .1) in
     (pre .0, omega (arith, plan-range _ (pre .0 .valid), c .if1 .left))
 
-pub step-lot-spec : {M : Type 1} → statement M
-step-lot-spec = tie.close (tie.spec (λ c κs. search needs) (λ c. search needs) enter-lot-requires-2 (λ c. search needs))
+pub enter-lot-spec : {M : Type 1} → statement M
+enter-lot-spec = tie.close (tie.spec (λ c κs. search needs) (λ c. search needs) enter-lot-requires-2 (λ c. search needs))
