@@ -2,12 +2,11 @@
 -- step of the plan fails, or entered. Assumes nothing.
 use Prim.Native.Nat.{ℕ, _+_, _≤_, _<_}
 use mathlib.Core.Path.{_≡_, refl, sym, ap, _∙_}
-use mathlib.Core.Bool.{Bool, true, false, cond, not, _&&_, _||_}
-use mathlib.Core.List.{List, [], _∷_}
+use mathlib.Core.Bool.{Bool, true, false, cond, not, _||_}
+use mathlib.Core.List.{List, _∷_}
 use native.Mathlib.Omega.{arith}
-use lib.Dec.{eqb, ltb}
-use lib.ListN.{length}
-use borrow.Author.Tests.{eq-eqb, ne-eqb, eqb-true, ltb-false, leb-false, not-false}
+use lib.Dec.{T, eqb, ltb}
+use borrow.Author.Tests.{ne-eqb, eqb-true, ltb-false, leb-false, not-false}
 use Rattle.plans.specs.Limits.{longestRun}
 use Rattle.model.specs.declared.Plan.{Plan}
 use Rattle.model.specs.declared.Entry.{Entry}
@@ -20,7 +19,7 @@ use Rattle.model.specs.Stations.{isContinuous, within}
 use Rattle.model.specs.Figuring.{sampleAsked, stepped}
 use Rattle.model.specs.Calls.{Refusal, refuse, firstOf, entryRefusals, isFull, accepts, refused, entryAnswer}
 use Rattle.model.specs.Area.{recordOf, onArea}
-use Rattle.model.proofs.Booleans.{neither-of, never-both}
+use Rattle.model.proofs.Booleans.{neither-of}
 use Rattle.rules.specs.Refusing.{lastOf, UpToLast}
 use Rattle.rules.proofs.UpToLast.{last-positive}
 use Rattle.replaying.specs.declared.Entered.{Entered}
@@ -55,6 +54,19 @@ pub record LeftContinuous (p : Plan) (count w : ℕ) : Type 0 where
   pub room : count < mostRecords
   pub wrong : w ≤ 1
 
+-- runs and blocks, and their flag
+abbrev pub isHeard : Entry → Bool
+isHeard (Lot label N n d D) = false
+isHeard (Run h w) = true
+isHeard (Block q w) = true
+isHeard (Stop why days) = false
+
+abbrev pub wrongIn : Entry → ℕ
+wrongIn (Lot label N n d D) = 0
+wrongIn (Run h w) = w
+wrongIn (Block q w) = w
+wrongIn (Stop why days) = 0
+
 module _ (p : Plan) (f : Figures) (count : ℕ) where
   pub left-lot : (label N n d D : ℕ) → firstOf (entryRefusals p f count (Lot label N n d D)) ≡ cond (accepts p f count (Lot label N n d D)) 0 13 → LeftLot p f count N n
   unfolding entryRefusals
@@ -72,7 +84,7 @@ module _ (p : Plan) (f : Figures) (count : ℕ) where
         sample = eqb-true n (sampleAsked p f N) (not-false _ (twelve .0));
       }
 
-  pub left-run : (h w : ℕ) → firstOf (entryRefusals p f count (Run h w)) ≡ cond (accepts p f count (Run h w)) 0 14 → LeftContinuous p count w
+  left-run : (h w : ℕ) → firstOf (entryRefusals p f count (Run h w)) ≡ cond (accepts p f count (Run h w)) 0 14 → LeftContinuous p count w
   unfolding entryRefusals isContinuous
   left-run h w e =
       let accepted = accepts p f count (Run h w) in
@@ -86,7 +98,7 @@ module _ (p : Plan) (f : Figures) (count : ℕ) where
         wrong = ltb-false 1 w (neither-of (ltb longestRun h) (ltb 1 w) (range .0) .1);
       }
 
-  pub left-block : (q w : ℕ) → firstOf (entryRefusals p f count (Block q w)) ≡ cond (accepts p f count (Block q w)) 0 14 → LeftContinuous p count w
+  left-block : (q w : ℕ) → firstOf (entryRefusals p f count (Block q w)) ≡ cond (accepts p f count (Block q w)) 0 14 → LeftContinuous p count w
   unfolding entryRefusals isContinuous
   left-block q w e =
       let accepted = accepts p f count (Block q w) in
@@ -98,6 +110,13 @@ module _ (p : Plan) (f : Figures) (count : ℕ) where
         room = room-of count (nine .0);
         wrong = ltb-false 1 w (neither-of (not (within 1 (p .b) q)) (ltb 1 w) (fifteen .0) .1);
       }
+
+  pub left-continuous : (e : Entry) → T (isHeard e) → firstOf (entryRefusals p f count e) ≡ cond (accepts p f count e) 0 (lastOf e)
+      → LeftContinuous p count (wrongIn e)
+  left-continuous (Lot label N n d D) of e = absurd of
+  left-continuous (Run h w) of e = left-run h w e
+  left-continuous (Block q w) of e = left-block q w e
+  left-continuous (Stop why days) of e = absurd of
 
   pub left-stop : (why days : ℕ) → firstOf (entryRefusals p f count (Stop why days)) ≡ cond (accepts p f count (Stop why days)) 0 15 → count < mostRecords
   unfolding entryRefusals

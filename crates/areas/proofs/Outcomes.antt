@@ -1,13 +1,12 @@
 -- The answers of the code on an area, each as the outcome of the call. Assumes nothing.
 use Prim.Native.Nat.{ℕ, suc, _+_, _-_, _*_, _≤_, _<_}
 use mathlib.Core.Path.{_≡_, refl, sym, ap, _∙_}
-use mathlib.Core.Bool.{Bool, true, false}
+use mathlib.Core.Bool.{Bool, false}
 use mathlib.Core.List.{List, [], _∷_, append-assoc}
 use native.Mathlib.Omega.{arith}
 use lib.Dec.{T, eqb}
 use borrow.Author.Tests.{ne-eqb, not-false}
 use lib.ListN.{length}
-use Rattle.little.specs.Little.{bytes, written}
 use Rattle.plans.specs.Limits.{largestLot}
 use Rattle.plans.specs.Verdicts.{acceptedOf}
 use Rattle.plans.specs.Continuous.{afterBlock}
@@ -18,10 +17,10 @@ use Rattle.model.specs.declared.Call.{Call}
 use Rattle.model.specs.declared.Call.the-variants.{Open, Enter, Back, Ask, Read}
 use Rattle.model.specs.declared.Figures.{Figures}
 use Rattle.model.specs.declared.Answer.{Answer}
-use Rattle.model.specs.Sizes.{recordLength, headerLength, mostRecords}
-use Rattle.records.specs.Records.{recordIn, recordAt, countStart, figuresStart, LevelFits}
+use Rattle.model.specs.Sizes.{recordLength, mostRecords}
+use Rattle.records.specs.Records.{recordIn, recordAt, LevelFits}
 use Rattle.model.specs.Stations.{Station, unopened, opened, validPlan, isContinuous}
-use Rattle.model.specs.Figuring.{sampleAsked, verdictOn, acceptedBy, stepped, started, figuresOf}
+use Rattle.model.specs.Figuring.{sampleAsked, verdictOn, acceptedBy, stepped, figuresOf}
 use Rattle.model.specs.Calls.{
   firstOf,
   entryRefusals,
@@ -40,19 +39,7 @@ use Rattle.model.specs.Calls.{
   kindOf,
   sizeInRange,
 }
-use Rattle.model.specs.Area.{
-  zeros,
-  planBytes,
-  figureBytes,
-  recordBytes,
-  recordOf,
-  recordsOf,
-  areaOf,
-  holds,
-  reading,
-  AreaOutcome,
-  onArea,
-}
+use Rattle.model.specs.Area.{zeros, recordBytes, recordOf, recordsOf, areaOf, holds, reading, AreaOutcome, onArea}
 use Rattle.model.proofs.Allowed.{room-for, passed}
 use Rattle.model.proofs.FigureBounds.{lot-size-range, stepped-within}
 use Rattle.model.proofs.AreaReading.{area-of-reading, part-record, records-in}

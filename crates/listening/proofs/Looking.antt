@@ -5,7 +5,7 @@ use mathlib.Core.Bool.{Bool, true, false, cond, not}
 use mathlib.Core.List.{List, _++_}
 use native.Mathlib.Omega.{arith}
 use lib.Dec.{eqb, leb}
-use borrow.Author.Tests.{eqb-true, leb-false, eq-eqb, ne-eqb}
+use borrow.Author.Tests.{eqb-true, leb-false, ne-eqb}
 use lib.ListN.{length, take, drop}
 use lib.Seq.{drop-drop}
 use Rattle.little.specs.Little.{part, written}

@@ -3,48 +3,44 @@
 -- Assumes nothing.
 use Prim.Native.Nat.{ℕ, _+_, _≤_, _<_}
 use mathlib.Core.Path.{_≡_, refl, ap, _∙_}
-use mathlib.Core.Bool.{Bool, true, false, not}
+use mathlib.Core.Bool.{true, false, not}
 use mathlib.Core.List.{List}
 use native.Mathlib.Omega.{arith}
 use borrow.Author.Tests.{not-true, not-false}
 use mir.Val.{Fits}
 use mir.Syntax.{w8}
 use lib.Dec.{T, eqb}
-use lib.ListN.{length}
 use Rattle.little.specs.Little.{written}
 use Rattle.plans.specs.Limits.{largestInterval}
 use Rattle.plans.specs.Verdicts.{acceptedOf}
 use Rattle.plans.specs.Continuous.{afterBlock}
-use Rattle.model.specs.declared.Plan.{Plan}
-use Rattle.model.specs.declared.Figures.{Figures}
 use Rattle.model.specs.declared.Entry.{Entry}
 use Rattle.model.specs.declared.Entry.the-variants.{Lot, Run, Block, Stop}
 use Rattle.model.specs.declared.Call.the-variants.{Enter}
 use Rattle.model.specs.declared.Answer.{Answer}
-use Rattle.model.specs.FigureBounds.{FiguresWithin}
-use Rattle.model.specs.Sizes.{mostRecords, streams, storeLength, startOf}
-use Rattle.model.specs.Stations.{validPlan, isContinuous}
+use Rattle.model.specs.Sizes.{mostRecords, startOf}
+use Rattle.model.specs.Stations.{isContinuous}
 use Rattle.model.specs.Figuring.{verdictOn, stepped}
 use Rattle.model.specs.Calls.{refused, gives, firstOf, entryRefusals, entryAnswer, lotFigure}
 use Rattle.model.specs.Area.{recordBytes, recordOf}
 use Rattle.model.specs.Store.{areaAt, onStore}
 use Rattle.model.specs.Claims.{on}
 use Rattle.model.proofs.Allowed.{AllowedBlock, allowed-lot, allowed-block, allowed-stop, plan-range}
-use Rattle.rules.specs.Refusing.{lastOf, UpToLast, LotUpToLast, RunUpToLast, BlockUpToLast, StopUpToLast}
+use Rattle.rules.specs.Refusing.{lastOf, UpToLast, LotUpToLast, ContinuousUpToLast, StopUpToLast}
 use Rattle.rules.proofs.Counts.{all-at-most}
-use Rattle.records.specs.Records.{LevelFits}
 use Rattle.replaying.specs.declared.Entered.{Entered}
 use Rattle.replaying.specs.Replaying.{Reached, tried, askedLot}
 use Rattle.replay.specs.declared.Standing.{Standing}
 use Rattle.areas.specs.Written.{rewritten}
-use Rattle.areas.proofs.OnReading.{read-plan, read-figures, read-count}
+use Rattle.areas.proofs.OnReading.{read-plan}
 use Rattle.areas.proofs.Outcomes.{lot-answer, run-answer, block-answer, stop-answer}
 use Rattle.areas.proofs.Entering.{
   LeftLot,
   LeftContinuous,
+  isHeard,
+  wrongIn,
   left-lot,
-  left-run,
-  left-block,
+  left-continuous,
   left-stop,
   lot-asked,
   reached-here,
@@ -160,91 +156,75 @@ lot-heard store stream s label N n d D r x made stands said none seen known =
     let t = lot-tried store stream s label N n r seen known said none d D x made in
     all-at-most _ _ _ _ _ _ _ _ (allowed-lot _ _ _ _ _ _ _ _ (none-given t stands))
 
--- what a run's or block's flag is known to be
+-- ---- a run or a block
+module _ (store : List ℕ) (stream : ℕ) (s : Standing) (e : Entry) (r : ℕ) (seen : s ≡ lookedAt 0 stream store) (known : s .refusal ≡ 0)
+    (said : ContinuousUpToLast (s .plan) (s .count) e r) where
+  pub heard-told : Told store stream s e r
+  unfolding ContinuousUpToLast
+  heard-told = record { opened = opened-in store stream 0 s seen known; said = said (s .figures) }
+
+  module _ (of : T (isHeard e)) (none : r ≡ 0) where
+    heard-left : LeftContinuous (s .plan) (s .count) (wrongIn e)
+    heard-left = left-continuous _ _ _ e of (last-left (heard-told .opened .at) _ (heard-told .said) none)
+
+    pub heard-reached : Reached (s .plan) (s .figures)
+    heard-reached = reached-here (heard-told .opened .at) (heard-left .room)
+
+    pub heard-kind : s .plan .kind ≡ 3
+    heard-kind = heard-left .kind
+
+    module _ (x : Entered) (made : x ≡ tried (s .plan) (s .figures) e) where
+      pub heard-tried : Tried store stream s e x
+      heard-tried = record { r = r; told = heard-told; none = none; room = heard-left .room; made = made }
+
+      pub heard-put : not (x .sound) ≡ false → MayWrite store stream (s .count) (x .figures)
+      heard-put = may-put heard-tried
+
 pub flag-fits : (w : ℕ) → w ≤ 1 → Fits w8 w
 flag-fits w few = record { fits = omega arith }
 
--- ---- a run
 module _ (store : List ℕ) (stream : ℕ) (s : Standing) (h w r : ℕ) (seen : s ≡ lookedAt 0 stream store) (known : s .refusal ≡ 0)
-    (said : RunUpToLast (s .plan) (s .count) h w r) where
-  pub run-told : Told store stream s (Run h w) r
-  unfolding RunUpToLast
-  run-told = record { opened = opened-in store stream 0 s seen known; said = said (s .figures) }
+    (said : ContinuousUpToLast (s .plan) (s .count) (Run h w) r) (none : r ≡ 0) where
+  pub run-wrong : w ≤ 1
+  run-wrong = heard-left store stream s (Run h w) r seen known said tt none .wrong
 
-  module _ (none : r ≡ 0) where
-    run-left : LeftContinuous (s .plan) (s .count) w
-    run-left = left-run _ _ _ h w (last-left (run-told .opened .at) _ (run-told .said) none)
+  pub run-entered : (x : Entered) (a : Answer) (then : List ℕ) → x ≡ tried (s .plan) (s .figures) (Run h w) → not (x .sound) ≡ false
+      → a ≡ gives h (x .figures .continuous .phase) 0
+      → then ≡ written (startOf stream) (rewritten (s .count) (recordBytes 2 w h 0 0 0) (s .count + 1) (x .figures) (areaAt stream store)) store
+      → keeps a then ≡ onStore store (on stream (Enter (Run h w)))
+  unfolding recordOf
+  run-entered x a then made stands given =
+      let t = heard-tried store stream s (Run h w) r seen known said tt none x made in
+      put t stands (run-answer (opened t stands .at) h w (after t stands) given)
 
-    pub run-reached : Reached (s .plan) (s .figures)
-    run-reached = reached-here (run-told .opened .at) (run-left .room)
-
-    pub run-kind : s .plan .kind ≡ 3
-    run-kind = run-left .kind
-
-    pub run-wrong : w ≤ 1
-    run-wrong = run-left .wrong
-
-    module _ (x : Entered) (made : x ≡ tried (s .plan) (s .figures) (Run h w)) where
-      pub run-tried : Tried store stream s (Run h w) x
-      run-tried = record { r = r; told = run-told; none = none; room = run-left .room; made = made }
-
-      module _ (stands : not (x .sound) ≡ false) where
-        pub run-put : MayWrite store stream (s .count) (x .figures)
-        run-put = may-put run-tried stands
-
-        pub run-entered : (a : Answer) (then : List ℕ) → a ≡ gives h (x .figures .continuous .phase) 0
-            → then ≡ written (startOf stream) (rewritten (s .count) (recordBytes 2 w h 0 0 0) (s .count + 1) (x .figures) (areaAt stream store)) store
-            → keeps a then ≡ onStore store (on stream (Enter (Run h w)))
-        unfolding recordOf
-        run-entered a then given = put run-tried stands (run-answer (opened run-tried stands .at) h w (after run-tried stands) given)
-
--- ---- a block
 module _ (store : List ℕ) (stream : ℕ) (s : Standing) (q w r : ℕ) (seen : s ≡ lookedAt 0 stream store) (known : s .refusal ≡ 0)
-    (said : BlockUpToLast (s .plan) (s .count) q w r) where
-  pub block-told : Told store stream s (Block q w) r
-  unfolding BlockUpToLast
-  block-told = record { opened = opened-in store stream 0 s seen known; said = said (s .figures) }
+    (said : ContinuousUpToLast (s .plan) (s .count) (Block q w) r) (none : r ≡ 0) where
+  pub block-wrong : w ≤ 1
+  block-wrong = heard-left store stream s (Block q w) r seen known said tt none .wrong
 
-  module _ (none : r ≡ 0) where
-    block-left : LeftContinuous (s .plan) (s .count) w
-    block-left = left-block _ _ _ q w (last-left (block-told .opened .at) _ (block-told .said) none)
+  module _ (x : Entered) (made : x ≡ tried (s .plan) (s .figures) (Block q w)) (stands : not (x .sound) ≡ false) where
+    block-tried : Tried store stream s (Block q w) x
+    block-tried = heard-tried store stream s (Block q w) r seen known said tt none x made
 
-    pub block-reached : Reached (s .plan) (s .figures)
-    block-reached = reached-here (block-told .opened .at) (block-left .room)
+    block-allowed : AllowedBlock (s .plan) (s .figures) (s .count) q w
+    block-allowed = allowed-block _ _ _ q w (none-given block-tried stands)
 
-    pub block-kind : s .plan .kind ≡ 3
-    block-kind = block-left .kind
+    pub block-from : 1 ≤ q
+    block-from = block-allowed .first
 
-    pub block-wrong : w ≤ 1
-    block-wrong = block-left .wrong
+    pub block-to : q ≤ s .plan .b
+    block-to = block-allowed .last
 
-    module _ (x : Entered) (made : x ≡ tried (s .plan) (s .figures) (Block q w)) where
-      pub block-tried : Tried store stream s (Block q w) x
-      block-tried = record { r = r; told = block-told; none = none; room = block-left .room; made = made }
+    pub block-interval : s .plan .b ≤ largestInterval
+    block-interval = omega (arith, plan-range _ (read-plan (opened block-tried stands .at)))
 
-      module _ (stands : not (x .sound) ≡ false) where
-        block-allowed : AllowedBlock (s .plan) (s .figures) (s .count) q w
-        block-allowed = allowed-block _ _ _ q w (none-given block-tried stands)
-
-        pub block-from : 1 ≤ q
-        block-from = block-allowed .first
-
-        pub block-to : q ≤ s .plan .b
-        block-to = block-allowed .last
-
-        pub block-interval : s .plan .b ≤ largestInterval
-        block-interval = omega (arith, plan-range _ (read-plan (opened block-tried stands .at)))
-
-        pub block-put : MayWrite store stream (s .count) (x .figures)
-        block-put = may-put block-tried stands
-
-        pub block-entered : (a : Answer) (then : List ℕ)
-            → a ≡ gives (afterBlock (s .plan .b) q (eqb w 1) (s .figures .continuous) .accepted)
-            (afterBlock (s .plan .b) q (eqb w 1) (s .figures .continuous) .«hear_back») (x .figures .continuous .phase)
-            → then ≡ written (startOf stream) (rewritten (s .count) (recordBytes 3 w q 0 0 0) (s .count + 1) (x .figures) (areaAt stream store)) store
-            → keeps a then ≡ onStore store (on stream (Enter (Block q w)))
-        unfolding recordOf
-        block-entered a then given = put block-tried stands (block-answer (opened block-tried stands .at) q w (after block-tried stands) given)
+    pub block-entered : (a : Answer) (then : List ℕ)
+        → a ≡ gives (afterBlock (s .plan .b) q (eqb w 1) (s .figures .continuous) .accepted)
+        (afterBlock (s .plan .b) q (eqb w 1) (s .figures .continuous) .«hear_back») (x .figures .continuous .phase)
+        → then ≡ written (startOf stream) (rewritten (s .count) (recordBytes 3 w q 0 0 0) (s .count + 1) (x .figures) (areaAt stream store)) store
+        → keeps a then ≡ onStore store (on stream (Enter (Block q w)))
+    unfolding recordOf
+    block-entered a then given = put block-tried stands (block-answer (opened block-tried stands .at) q w (after block-tried stands) given)
 
 -- ---- a stop
 module _ (store : List ℕ) (stream : ℕ) (s : Standing) (r : ℕ) (seen : s ≡ lookedAt 0 stream store) (known : s .refusal ≡ 0)
@@ -281,21 +261,10 @@ pub ruleset entered = (shut-calls, first-given, last-given)
 
 pub ruleset lots = (entered, seen-plan, seen-figures, seen-count, lot-told, lot-tried, lot-reached, lot-kind, lot-heard, lot-put, lot-entered)
 
-pub ruleset runs = (entered, run-told, run-tried, run-reached, run-kind, run-wrong, flag-fits, run-put, run-entered)
+pub ruleset heard = (entered, tt, heard-told, heard-tried, heard-reached, heard-kind, heard-put, flag-fits)
 
-pub ruleset blocks = (
-  entered,
-  block-told,
-  block-tried,
-  block-reached,
-  block-kind,
-  block-wrong,
-  flag-fits,
-  block-from,
-  block-to,
-  block-interval,
-  block-put,
-  block-entered,
-)
+pub ruleset runs = (heard, run-wrong, run-entered)
+
+pub ruleset blocks = (heard, block-wrong, block-from, block-to, block-interval, block-entered)
 
 pub ruleset stops = (entered, stop-told, stop-tried, stop-reached, stop-why, stop-put, stop-entered)

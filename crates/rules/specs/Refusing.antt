@@ -23,15 +23,12 @@ abbrev pub UpToLast : Plan → Figures → ℕ → Entry → ℕ → Type 0
 UpToLast p f count e r =
     (r ≡ lastOf e → ⊥) × (firstOf (entryRefusals p f count e) ≡ cond (eqb r 0) (cond (accepts p f count e) 0 (lastOf e)) r)
 
--- the same of each kind of entry, whatever the numbers that none but the last looks at
+-- the same of a lot, of a run or block, and of a stop, whatever the numbers that none but the last looks at
 unfoldable pub LotUpToLast : Plan → Figures → ℕ → ℕ → ℕ → ℕ → ℕ → Type 0
 LotUpToLast p f count label N n r = (d D : ℕ) → UpToLast p f count (Lot label N n d D) r
 
-unfoldable pub RunUpToLast : Plan → ℕ → ℕ → ℕ → ℕ → Type 0
-RunUpToLast p count h w r = (f : Figures) → UpToLast p f count (Run h w) r
-
-unfoldable pub BlockUpToLast : Plan → ℕ → ℕ → ℕ → ℕ → Type 0
-BlockUpToLast p count q w r = (f : Figures) → UpToLast p f count (Block q w) r
+unfoldable pub ContinuousUpToLast : Plan → ℕ → Entry → ℕ → Type 0
+ContinuousUpToLast p count e r = (f : Figures) → UpToLast p f count e r
 
 unfoldable pub StopUpToLast : Figures → ℕ → ℕ → Type 0
 StopUpToLast f count r = (p : Plan) (why days : ℕ) → UpToLast p f count (Stop why days) r

@@ -8,37 +8,37 @@ use lib.Dec.{ltb}
 use Rattle.plans.specs.Continuous.{isSampling}
 use native.Mathlib.Omega.{arith}
 use borrow.Author.Tests.{eq-eqb, ne-eqb, lt-ltb, le-ltb, le-leb, lt-leb}
-use Rattle.rules.specs.Refusing.{RunUpToLast}
+use Rattle.rules.specs.Refusing.{ContinuousUpToLast}
 use borrow.Author.Needs.{needs}
 use Rattle.rules.proofs.refusing.run.Statement.{statement}
 use Rattle.rules.proofs.refusing.run.Tie as tie
 
 returns : tie.Need-returns
-unfolding RunUpToLast firstOf entryRefusals isContinuous
+unfolding ContinuousUpToLast firstOf entryRefusals isContinuous
 returns c = λ f. ((λ same. omega arith), simp (ne-eqb _ _ (c .if1 .taken)))
 
 returns-2 : tie.Need-returns-2
-unfolding RunUpToLast firstOf entryRefusals isContinuous isFull
+unfolding ContinuousUpToLast firstOf entryRefusals isContinuous isFull
 returns-2 c = λ f. ((λ same. omega arith), simp (eq-eqb _ _ (c .before .if1 .left), le-leb _ _ (c .if2 .taken)))
 
 returns-3 : tie.Need-returns-3
-unfolding RunUpToLast firstOf entryRefusals isContinuous isFull
+unfolding ContinuousUpToLast firstOf entryRefusals isContinuous isFull
 returns-3 c = λ f. ((λ same. omega arith), simp (eq-eqb _ _ (c .before .before .if1 .left), lt-leb _ _ (c .before .if2 .left), lt-ltb _ _ (c .if3 .taken)))
 
 returns-4 : tie.Need-returns-4
-unfolding RunUpToLast firstOf entryRefusals isContinuous isFull
+unfolding ContinuousUpToLast firstOf entryRefusals isContinuous isFull
 returns-4 c = λ f.
     let short = c .before in
     ((λ same. omega arith), simp (eq-eqb _ _ (short .before .before .if1 .left), lt-leb _ _ (short .before .if2 .left), le-ltb _ _ (short .if3 .left), lt-ltb _ _ (c .if4 .taken)))
 
 returns-5 : tie.Need-returns-5
-unfolding RunUpToLast firstOf entryRefusals isContinuous isFull
+unfolding ContinuousUpToLast firstOf entryRefusals isContinuous isFull
 returns-5 c = λ f.
     let short = c .before .before in
     ((λ same. omega arith), simp (eq-eqb _ _ (short .before .before .if1 .left), lt-leb _ _ (short .before .if2 .left), le-ltb _ _ (short .if3 .left), le-ltb _ _ (c .before .if4 .left), eq-eqb _ _ (c .if5 .taken)))
 
 returns-6 : tie.Need-returns-6
-unfolding RunUpToLast firstOf entryRefusals isContinuous isFull
+unfolding ContinuousUpToLast firstOf entryRefusals isContinuous isFull
 returns-6 c = λ f.
     let short = c .before .before in
     let a = short .before .before .before .before .args in
