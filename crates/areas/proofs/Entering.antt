@@ -3,10 +3,10 @@
 use Prim.Native.Nat.{ℕ, _+_, _≤_, _<_}
 use mathlib.Core.Path.{_≡_, refl, sym, ap, _∙_}
 use mathlib.Core.Bool.{Bool, true, false, cond, not, _||_}
-use mathlib.Core.List.{List, _∷_}
+use mathlib.Core.List.{List}
 use native.Mathlib.Omega.{arith}
 use lib.Dec.{T, eqb, ltb}
-use borrow.Author.Tests.{ne-eqb, eqb-true, ltb-false, leb-false, not-false}
+use borrow.Author.Tests.{eqb-true, ltb-false, leb-false, not-false}
 use Rattle.plans.specs.Limits.{longestRun}
 use Rattle.model.specs.declared.Plan.{Plan}
 use Rattle.model.specs.declared.Entry.{Entry}
@@ -17,11 +17,12 @@ use Rattle.model.specs.declared.Answer.{Answer}
 use Rattle.model.specs.Sizes.{mostRecords}
 use Rattle.model.specs.Stations.{isContinuous, within}
 use Rattle.model.specs.Figuring.{sampleAsked, stepped}
-use Rattle.model.specs.Calls.{Refusal, refuse, firstOf, entryRefusals, isFull, accepts, refused, entryAnswer}
+use Rattle.model.specs.Calls.{firstOf, entryRefusals, isFull, accepts, refused, entryAnswer}
 use Rattle.model.specs.Area.{recordOf, onArea}
+use Rattle.model.proofs.Allowed.{passed}
 use Rattle.model.proofs.Booleans.{neither-of}
-use Rattle.rules.specs.Refusing.{lastOf, UpToLast}
-use Rattle.rules.proofs.UpToLast.{last-positive}
+use Rattle.rules.specs.Refusing.{earlier, lastOf, UpToLast}
+use Rattle.rules.proofs.UpToLast.{first-earlier, last-decides}
 use Rattle.replaying.specs.declared.Entered.{Entered}
 use Rattle.replaying.specs.Replaying.{Reached, tried, askedLot}
 use Rattle.replaying.proofs.Tried.{accepts-anywhere}
@@ -30,14 +31,6 @@ use Rattle.areas.specs.Written.{rewritten}
 use Rattle.replay.specs.declared.Standing.{Standing}
 use Rattle.areas.proofs.OnReading.{OpenedAt, read-plan, read-entries}
 use Rattle.areas.proofs.Outcomes.{leaves, enter-refused, entered, after-fits}
-
--- where none but the last of some refusals can be given, the first does not apply
-passed-last : (n last : ℕ) (applies : Bool) (rs : List Refusal) (accepted : Bool) → 0 < n → (n ≡ last → ⊥)
-    → firstOf (refuse n applies ∷ rs) ≡ cond accepted 0 last → (applies ≡ false) × (firstOf rs ≡ cond accepted 0 last)
-unfolding firstOf
-passed-last n last true rs true positive other e = absurd (omega arith)
-passed-last n last true rs false positive other e = absurd (other e)
-passed-last n last false rs accepted positive other e = (refl, e)
 
 room-of : (count : ℕ) → isFull count ≡ false → count < mostRecords
 unfolding isFull
@@ -68,29 +61,27 @@ wrongIn (Block q w) = w
 wrongIn (Stop why days) = 0
 
 module _ (p : Plan) (f : Figures) (count : ℕ) where
-  pub left-lot : (label N n d D : ℕ) → firstOf (entryRefusals p f count (Lot label N n d D)) ≡ cond (accepts p f count (Lot label N n d D)) 0 13 → LeftLot p f count N n
-  unfolding entryRefusals
+  pub left-lot : (label N n d D : ℕ) → firstOf (earlier (entryRefusals p f count (Lot label N n d D))) ≡ 0 → LeftLot p f count N n
+  unfolding earlier entryRefusals
   left-lot label N n d D e =
-      let accepted = accepts p f count (Lot label N n d D) in
-      let seven = passed-last 7 13 _ _ accepted (omega arith) (λ z. omega arith) e in
-      let eight = passed-last 8 13 _ _ accepted (omega arith) (λ z. omega arith) (seven .1) in
-      let nine = passed-last 9 13 _ _ accepted (omega arith) (λ z. omega arith) (eight .1) in
-      let ten = passed-last 10 13 _ _ accepted (omega arith) (λ z. omega arith) (nine .1) in
-      let eleven = passed-last 11 13 _ _ accepted (omega arith) (λ z. omega arith) (ten .1) in
-      let twelve = passed-last 12 13 _ _ accepted (omega arith) (λ z. omega arith) (eleven .1) in
+      let seven = passed 7 _ _ (omega arith) e in
+      let eight = passed 8 _ _ (omega arith) (seven .1) in
+      let nine = passed 9 _ _ (omega arith) (eight .1) in
+      let ten = passed 10 _ _ (omega arith) (nine .1) in
+      let eleven = passed 11 _ _ (omega arith) (ten .1) in
+      let twelve = passed 12 _ _ (omega arith) (eleven .1) in
       record {
         lots = seven .0;
         room = room-of count (nine .0);
         sample = eqb-true n (sampleAsked p f N) (not-false _ (twelve .0));
       }
 
-  left-run : (h w : ℕ) → firstOf (entryRefusals p f count (Run h w)) ≡ cond (accepts p f count (Run h w)) 0 14 → LeftContinuous p count w
-  unfolding entryRefusals isContinuous
+  left-run : (h w : ℕ) → firstOf (earlier (entryRefusals p f count (Run h w))) ≡ 0 → LeftContinuous p count w
+  unfolding earlier entryRefusals isContinuous
   left-run h w e =
-      let accepted = accepts p f count (Run h w) in
-      let seven = passed-last 7 14 _ _ accepted (omega arith) (λ z. omega arith) e in
-      let nine = passed-last 9 14 _ _ accepted (omega arith) (λ z. omega arith) (seven .1) in
-      let fifteen = passed-last 15 14 _ _ accepted (omega arith) (λ z. omega arith) (nine .1) in
+      let seven = passed 7 _ _ (omega arith) e in
+      let nine = passed 9 _ _ (omega arith) (seven .1) in
+      let fifteen = passed 15 _ _ (omega arith) (nine .1) in
       let range = neither-of (ltb longestRun h || ltb 1 w) (eqb (h + w) 0) (fifteen .0) in
       record {
         kind = eqb-true (p .kind) 3 (not-false _ (seven .0));
@@ -98,38 +89,42 @@ module _ (p : Plan) (f : Figures) (count : ℕ) where
         wrong = ltb-false 1 w (neither-of (ltb longestRun h) (ltb 1 w) (range .0) .1);
       }
 
-  left-block : (q w : ℕ) → firstOf (entryRefusals p f count (Block q w)) ≡ cond (accepts p f count (Block q w)) 0 14 → LeftContinuous p count w
-  unfolding entryRefusals isContinuous
+  left-block : (q w : ℕ) → firstOf (earlier (entryRefusals p f count (Block q w))) ≡ 0 → LeftContinuous p count w
+  unfolding earlier entryRefusals isContinuous
   left-block q w e =
-      let accepted = accepts p f count (Block q w) in
-      let seven = passed-last 7 14 _ _ accepted (omega arith) (λ z. omega arith) e in
-      let nine = passed-last 9 14 _ _ accepted (omega arith) (λ z. omega arith) (seven .1) in
-      let fifteen = passed-last 15 14 _ _ accepted (omega arith) (λ z. omega arith) (nine .1) in
+      let seven = passed 7 _ _ (omega arith) e in
+      let nine = passed 9 _ _ (omega arith) (seven .1) in
+      let fifteen = passed 15 _ _ (omega arith) (nine .1) in
       record {
         kind = eqb-true (p .kind) 3 (not-false _ (seven .0));
         room = room-of count (nine .0);
         wrong = ltb-false 1 w (neither-of (not (within 1 (p .b) q)) (ltb 1 w) (fifteen .0) .1);
       }
 
-  pub left-continuous : (e : Entry) → T (isHeard e) → firstOf (entryRefusals p f count e) ≡ cond (accepts p f count e) 0 (lastOf e)
+  pub left-continuous : (e : Entry) → T (isHeard e) → firstOf (earlier (entryRefusals p f count e)) ≡ 0
       → LeftContinuous p count (wrongIn e)
   left-continuous (Lot label N n d D) of e = absurd of
   left-continuous (Run h w) of e = left-run h w e
   left-continuous (Block q w) of e = left-block q w e
   left-continuous (Stop why days) of e = absurd of
 
-  pub left-stop : (why days : ℕ) → firstOf (entryRefusals p f count (Stop why days)) ≡ cond (accepts p f count (Stop why days)) 0 15 → count < mostRecords
-  unfolding entryRefusals
+  pub left-stop : (why days : ℕ) → firstOf (earlier (entryRefusals p f count (Stop why days))) ≡ 0 → count < mostRecords
+  unfolding earlier entryRefusals
   left-stop why days e =
-      let accepted = accepts p f count (Stop why days) in
-      let eight = passed-last 8 15 _ _ accepted (omega arith) (λ z. omega arith) e in
-      let nine = passed-last 9 15 _ _ accepted (omega arith) (λ z. omega arith) (eight .1) in
+      let eight = passed 8 _ _ (omega arith) e in
+      let nine = passed 9 _ _ (omega arith) (eight .1) in
       room-of count (nine .0)
 
 -- a lot with the sample asked is that lot
 pub lot-asked : (p : Plan) (f : Figures) (label N n d D : ℕ) → n ≡ sampleAsked p f N → askedLot p f label N d D ≡ Lot label N n d D
 unfolding askedLot
 lot-asked p f label N n d D same = rw same
+
+last-positive : (e : Entry) → lastOf e ≡ 0 → ⊥
+last-positive (Lot label N n d D) z = omega arith
+last-positive (Run h w) z = omega arith
+last-positive (Block q w) z = omega arith
+last-positive (Stop why days) z = omega arith
 
 module _ {area : List ℕ} {s : Standing} {es : List Entry} (at : OpenedAt 0 area s es) where
   -- figures that calls have left, with a place free
@@ -146,12 +141,15 @@ module _ {area : List ℕ} {s : Standing} {es : List Entry} (at : OpenedAt 0 are
   module _ (e : Entry) {r : ℕ} (told : UpToLast (s .plan) (s .figures) (s .count) e r) where
     -- an earlier refusal applies
     pub refused-first : {a : Answer} → (r ≡ 0 → ⊥) → a ≡ refused r → leaves a area ≡ onArea area (Enter e)
-    refused-first applies given = enter-refused at e (sym (told .1 ∙ rw (ne-eqb r 0 applies))) applies given
+    refused-first applies given = enter-refused at e (told ∙ first-earlier _ (λ z. applies (told ∙ z))) applies given
 
     module _ (none : r ≡ 0) where
       -- only the last is left
-      pub last-left : firstOf (entryRefusals (s .plan) (s .figures) (s .count) e) ≡ cond (accepts (s .plan) (s .figures) (s .count) e) 0 (lastOf e)
-      last-left = told .1 ∙ rw none
+      pub last-left : firstOf (earlier (entryRefusals (s .plan) (s .figures) (s .count) e)) ≡ 0
+      last-left = sym told ∙ none
+
+      by-last : firstOf (entryRefusals (s .plan) (s .figures) (s .count) e) ≡ cond (accepts (s .plan) (s .figures) (s .count) e) 0 (lastOf e)
+      by-last = last-decides (s .plan) (s .figures) (s .count) e last-left
 
       module _ (room : s .count < mostRecords) {x : Entered} (made : x ≡ tried (s .plan) (s .figures) e) where
         accepted-as : {b : Bool} → x .sound ≡ b → accepts (s .plan) (s .figures) (s .count) e ≡ b
@@ -162,11 +160,11 @@ module _ {area : List ℕ} {s : Standing} {es : List Entry} (at : OpenedAt 0 are
         -- the step fails: the last applies
         pub refused-last : {a : Answer} → x .sound ≡ false → a ≡ refused (lastOf e) → leaves a area ≡ onArea area (Enter e)
         refused-last fails given =
-            enter-refused at e (sym (last-left ∙ rw (accepted-as fails))) (λ z. omega (arith, last-positive e)) given
+            enter-refused at e (sym (by-last ∙ rw (accepted-as fails))) (last-positive e) given
 
         -- it does not: none applies, and the figures are those after the entry
         pub none-refused : x .sound ≡ true → firstOf (entryRefusals (s .plan) (s .figures) (s .count) e) ≡ 0
-        none-refused holds = last-left ∙ rw (accepted-as holds)
+        none-refused holds = by-last ∙ rw (accepted-as holds)
 
         pub figures-after : x .sound ≡ true → x .figures ≡ stepped (s .plan) e (s .figures)
         unfolding tried

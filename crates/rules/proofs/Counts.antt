@@ -4,8 +4,8 @@ use mathlib.Core.Path.{_≡_, refl, sym, _∙_}
 use mathlib.Core.Bool.{Bool, true, false, not, _||_}
 use native.Mathlib.Omega.{arith}
 use lib.Dec.{eqb, leb}
-use borrow.Author.Tests.{eqb-true, leb-true}
-use Rattle.plans.specs.Limits.{largestLot}
+use borrow.Author.Tests.{eqb-true, leb-true, not-false}
+use Rattle.plans.specs.Limits.{largestLot, largestCredit}
 use Rattle.plans.specs.Credit.{creditVerdict}
 use Rattle.plans.specs.Verdicts.{lotHeard, lotWithheld, levelVerdict}
 use Rattle.plans.specs.Tables.{levelSample}
@@ -13,6 +13,8 @@ use Rattle.plans.proofs.Booleans.{either}
 use Rattle.plans.proofs.RoundedUp.{credit-sample-at-most}
 use Rattle.model.specs.declared.Plan.{Plan}
 use Rattle.model.specs.declared.Figures.{Figures}
+use Rattle.model.specs.FigureBounds.{FiguresWithin}
+use Rattle.model.specs.Sizes.{mostRecords}
 use Rattle.model.specs.Stations.{isCredit, hasOption, within}
 use Rattle.model.specs.Figuring.{sampleAsked, verdictOn}
 use Rattle.model.specs.Calls.{countsAgree, sizeInRange}
@@ -20,9 +22,12 @@ use Rattle.model.proofs.Booleans.{both-true, within-of, never-both}
 use Rattle.model.proofs.Allowed.{AllowedLot}
 use Rattle.model.proofs.FigureBounds.{lot-size-range}
 
--- the size of a lot that passed refusal 11
-pub size-passed : (p : Plan) (N : ℕ) {r : Bool} → r ≡ sizeInRange p N → r ≡ true → (1 ≤ N) × (N ≤ largestLot)
-size-passed p N e passed = lot-size-range p N (sym e ∙ passed)
+-- what a sample asks for: the size of a lot that passed refusal 11, and a credit that lots can have earned
+pub size-passed : (p : Plan) (N : ℕ) (r : Bool) → r ≡ sizeInRange p N → not r ≡ false → (1 ≤ N) × (N ≤ largestLot)
+size-passed p N r e passed = lot-size-range p N (sym e ∙ not-false r passed)
+
+pub credit-within : (f : Figures) (count : ℕ) → FiguresWithin count f → count ≤ mostRecords → f .credit .0 ≤ largestCredit
+credit-within f count within few = omega arith
 
 -- no sample is larger than its lot
 pub sample-at-most : (p : Plan) (f : Figures) (N : ℕ) → sampleAsked p f N ≤ N

@@ -2,6 +2,7 @@
 use Prim.Native.Nat.{ℕ}
 use mathlib.Core.Path.{_≡_}
 use mathlib.Core.Bool.{Bool, cond, not, _&&_}
+use mathlib.Core.List.{List, [], _∷_}
 use lib.Dec.{eqb, leb}
 use Rattle.plans.specs.Limits.{largestLot, longestStop}
 use Rattle.model.specs.declared.Plan.{Plan}
@@ -9,19 +10,24 @@ use Rattle.model.specs.declared.Entry.{Entry}
 use Rattle.model.specs.declared.Entry.the-variants.{Lot, Run, Block, Stop}
 use Rattle.model.specs.declared.Figures.{Figures}
 use Rattle.model.specs.Stations.{within}
-use Rattle.model.specs.Calls.{firstOf, entryRefusals, accepts}
+use Rattle.model.specs.Calls.{Refusal, firstOf, entryRefusals}
 
--- the last refusal in an entry's list: it is given where the step of the plan fails
+-- a list of refusals without the last
+unfoldable pub earlier : List Refusal → List Refusal
+earlier [] = []
+earlier (r ∷ []) = []
+earlier (r ∷ s ∷ rs) = r ∷ earlier (s ∷ rs)
+
+-- the last of an entry's: it is given where no earlier one applies and the step of the plan fails
 abbrev pub lastOf : Entry → ℕ
 lastOf (Lot label N n d D) = 13
 lastOf (Run h w) = 14
 lastOf (Block q w) = 14
 lastOf (Stop why days) = 15
 
--- r is the first that applies of an entry's other refusals, or 0: then it is refused by the last where it is not accepted
+-- r is the first that applies of an entry's earlier refusals, 0 where none does
 abbrev pub UpToLast : Plan → Figures → ℕ → Entry → ℕ → Type 0
-UpToLast p f count e r =
-    (r ≡ lastOf e → ⊥) × (firstOf (entryRefusals p f count e) ≡ cond (eqb r 0) (cond (accepts p f count e) 0 (lastOf e)) r)
+UpToLast p f count e r = r ≡ firstOf (earlier (entryRefusals p f count e))
 
 -- the same of a lot, of a run or block, and of a stop, whatever the numbers that none but the last looks at
 unfoldable pub LotUpToLast : Plan → Figures → ℕ → ℕ → ℕ → ℕ → ℕ → Type 0
