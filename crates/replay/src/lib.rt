@@ -1,8 +1,8 @@
 // Reading an area: its records are replayed by the loop of its plan, and its figures and zeros compared with what they leave.
 ghost use mathlib.Core.Path.{_≡_};
-ghost use mathlib.Core.Bool.{false, cond};
-ghost use Prim.Native.Nat.{_-_};
-ghost use lib.ListN.{length};
+ghost use mathlib.Core.Bool.{false};
+ghost use Prim.Native.Nat.{ℕ, _-_};
+ghost use lib.ListN.{length, getD};
 ghost use Rattle.model.specs.Sizes.{areaLength};
 ghost use Rattle.model.specs.Area.{reading};
 ghost use Rattle.records.specs.Records.{Decides};
@@ -84,8 +84,16 @@ pub fn read(area: &[u8], newest: usize) -> Standing
     ensures { λ r. ⌜ r ≡ standingOf newest (reading (now (area .entry))) ⌝ }
 {
     if area[0] == 0 {
-        return empty(records::is_zero_from(area, 0));
+        return read_unopened(area);
     }
+    read_opened(area, newest)
+}
+
+// The same of an area whose first byte is not 0.
+fn read_opened(area: &[u8], newest: usize) -> Standing
+    requires { ⌜ (length (now area) ≡ areaLength) × (getD (now area) 0 0 ≡ 0 → ⊥) ⌝ }
+    ensures { λ r. ⌜ r ≡ standingOf newest (reading (now (area .entry))) ⌝ }
+{
     let plan = records::get_plan(area);
     if !plan::is_valid(plan) {
         return nothing(UNSOUND);
@@ -95,6 +103,17 @@ pub fn read(area: &[u8], newest: usize) -> Standing
         return nothing(UNSOUND);
     }
     read_records(area, plan, count, newest)
+}
+
+// The same of an area whose first byte is 0: the stream is unopened where all others are 0 too.
+fn read_unopened(area: &[u8]) -> Standing
+    requires { ⌜ (length (now area) ≡ areaLength) × (getD (now area) 0 0 ≡ 0) ⌝ }
+    ensures { λ r. ⌜ ((newest : ℕ) → r ≡ standingOf newest (reading (now (area .entry)))) ⌝ }
+{
+    if records::is_zero_from(area, 0) {
+        return nothing(UNOPENED);
+    }
+    nothing(UNSOUND)
 }
 
 // What an area says whose header has a valid plan and a count that fits. The records are replayed once: those before the newest, then
@@ -164,16 +183,6 @@ fn without(count: usize, newest: usize) -> usize
         return 0;
     }
     count - newest
-}
-
-// What an area says whose first byte is 0, by whether all others are too.
-fn empty(clear: bool) -> Standing
-    ensures { λ r. ⌜ r ≡ nothingStands (cond clear 6 3) ⌝ }
-{
-    if clear {
-        return nothing(UNOPENED);
-    }
-    nothing(UNSOUND)
 }
 
 // Nothing but a refusal to tell of.
