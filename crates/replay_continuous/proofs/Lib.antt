@@ -3,4 +3,3 @@ pub mod Carries
 pub mod Phases
 pub mod Accepting
 pub mod Steps
-pub mod Turning

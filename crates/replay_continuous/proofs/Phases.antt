@@ -8,6 +8,7 @@ use native.Mathlib.Omega.{arith}
 use lib.Dec.{T, eqb}
 use lib.ListN.{length}
 use borrow.Author.Tests.{eq-eqb, ne-eqb, eqb-false}
+use Rattle.little.specs.Little.{AreBytes}
 use Rattle.plans.specs.declared.continuous.Continuous.{Continuous}
 use Rattle.plans.specs.Stops.{setUpChanged, longStop}
 use Rattle.plans.specs.Continuous.{screening, sampling, isSampling, afterRun, afterBlock, afterStop}
@@ -21,7 +22,8 @@ use Rattle.model.specs.Figuring.{started, creditStep, levelStep, continuousStep
 use Rattle.model.specs.Calls.{firstOf, entryRefusals, admissible}
 use Rattle.model.proofs.Booleans.{never-both}
 use Rattle.model.proofs.Allowed.{allowed-lot, allowed-run, newest-of, continuous-plan}
-use Rattle.replaying.specs.Replaying.{Reached}
+use Rattle.replaying.specs.Replaying.{figuresTo, Reached, Ready}
+use Rattle.replaying.proofs.Turns.{ready-admissible}
 use Rattle.replay_continuous.specs.Places.{leftOf, stateOf, figuresWith, figuresIn, placeFrom}
 
 -- figures that a place stands for
@@ -93,3 +95,8 @@ module _ (p : Plan) (valid : T (validPlan p)) (kind : p .kind ≡ 3) where
 
 pub reached-placed : (p : Plan) (f : Figures) → Reached p f → p .kind ≡ 3 → Placed p f
 reached-placed p f reached kind = rw (reached .after) (entries-placed p (reached .valid) kind (reached .entries) (reached .stood))
+
+-- and so are those that a replay starts with
+pub ready-placed : (p : Plan) (area : List ℕ) (i to : ℕ) (f : Figures) → Ready p area f i to → AreBytes area → p .kind ≡ 3 → Placed p f
+unfolding figuresTo
+ready-placed p area i to f ready bytes kind = rw (ready .brought) (entries-placed p (ready .valid) kind _ (ready-admissible p area f i to ready bytes))

@@ -1,11 +1,16 @@
--- One law for each answer of a step, and for each way to a record that does not stand. Assumes nothing.
-use Prim.Native.Nat.{ℕ, _+_, _*_, _≤_}
+-- What an entry gives on a continuous stream, in its place: each answer from facts in the code's own form, what was tested and what the callees
+-- ensure. The sets at the end are handed to the search, which finds these facts among what a function has learnt. Assumes nothing.
+use Prim.Native.Nat.{ℕ, _+_, _*_, _≤_, _<_, _^_}
 use mathlib.Core.Path.{_≡_, refl, sym, ap, _∙_}
 use mathlib.Core.Bool.{Bool, true, false, not}
+use mathlib.Core.List.{List}
 use native.Mathlib.Omega.{arith}
 use lib.Dec.{eqb}
 use borrow.Author.Tests.{eqb-true, eqb-false, not-true, not-false}
+use Rattle.little.specs.Little.{AreBytes}
+use Rattle.plans.specs.Limits.{largestClearance, largestInterval}
 use Rattle.plans.specs.declared.continuous.Continuous.{Continuous}
+use Rattle.plans.specs.declared.continuous.Block.{Block as Given}
 use Rattle.plans.specs.Continuous.{afterRun, afterBlock, afterStop}
 use Rattle.model.specs.declared.Plan.{Plan}
 use Rattle.model.specs.declared.Figures.{Figures}
@@ -15,19 +20,20 @@ use Rattle.model.specs.Stations.{isLevel, isContinuous, within}
 use Rattle.model.specs.Figuring.{noLevel, creditStep, levelStep, continuousStep, acceptedBy, isLot, stepped}
 use Rattle.model.specs.Calls.{isDiscontinued, accepts}
 use Rattle.model.proofs.Allowed.{ContinuousPlan, continuous-plan, allowed-run}
-use Rattle.model.proofs.Booleans.{never-both}
+use Rattle.model.proofs.Booleans.{never-both, within-of}
 use Rattle.rules.specs.Refusing.{isStop}
 use Rattle.records.specs.declared.Record.{Record}
 use Rattle.replaying.specs.declared.Entered.{Entered}
-use Rattle.replaying.specs.Replaying.{oneNumber, stands, entered, tried, soundAt, unsoundAt, Reached}
-use Rattle.replaying.proofs.Reached.{reached-within}
-use Rattle.replaying.proofs.Tried.{accepted-zero, stop-tried, run-record, block-record, no-record}
+use Rattle.replaying.specs.Replaying.{oneNumber, headOf, whyOf, entered, tried, soundAt, unsoundAt, Reached, Ready}
+use Rattle.replaying.proofs.Heads.{why-more}
+use Rattle.replaying.proofs.Reached.{reached-within, turns}
+use Rattle.replaying.proofs.Tried.{enteredWith, entered-read, accepted-zero, stop-tried, run-record, block-record, no-stop, stop-record}
 use Rattle.replay_continuous.specs.declared.Place.{Place}
 use Rattle.replay_continuous.specs.declared.Step.{Step}
 use Rattle.replay_continuous.specs.declared.Step.the-variants.{Stands, Fails}
 use Rattle.replay_continuous.specs.Places.{stateOf, figuresWith, figuresIn, placeOf, placeFrom, fitsRun, flagOf, enteredAs}
-use Rattle.replay_continuous.specs.Places.{OnContinuous, Within, Steps, Headed, NoRunOrBlock}
-use Rattle.replay_continuous.proofs.Phases.{continuous, Placed, reached-placed, stepped-placed}
+use Rattle.replay_continuous.specs.Places.{OnContinuous, Within, Steps}
+use Rattle.replay_continuous.proofs.Phases.{continuous, Placed, reached-placed, ready-placed, stepped-placed}
 use Rattle.replay_continuous.proofs.Accepting.{no-run, no-block, run-accepts, block-accepts}
 
 abbrev pub figuresAt : Plan → Place → Figures
@@ -37,148 +43,276 @@ flag-test : (wrong : Bool) → eqb (flagOf wrong) 1 ≡ wrong
 flag-test true = refl
 flag-test false = refl
 
--- an entry by the code's test of whether it fits: it does not; or it does, and leaves the place of the figures after it
-pub record Ways (p : Plan) (s : Place) (e : Entry) (fits : Bool) (state : Continuous) (n : ℕ) : Type 0 where
-  pub fails : (b : Bool) → b ≡ fits → not b ≡ true → Steps p s Fails (tried p (figuresAt p s) e)
-  pub counts : (b : Bool) → b ≡ fits → not b ≡ false → state .count ≤ p .a
-  pub stands : (b : Bool) → b ≡ fits → not b ≡ false → Steps p s (Stands (placeOf (p .a) state n)) (tried p (figuresAt p s) e)
-
-module _ (p : Plan) (s : Place) (on : OnContinuous p s) where
-  blocks : isContinuous p ≡ true
-  blocks = continuous p (on .reached .valid) (on .kind)
-
-  pub plan-of : ContinuousPlan p
-  plan-of = continuous-plan p (on .reached .valid) blocks
-
-  pub accepted-room : s .accepted ≤ 127000000
-  unfolding figuresIn
-  accepted-room = reached-within p _ (on .reached) .acceptedIn
-
-  failed : (e : Entry) → accepts p (figuresAt p s) 0 e ≡ false → Steps p s Fails (tried p (figuresAt p s) e)
-  unfolding tried enteredAs unsoundAt Within
-  failed e never = record { same = rw never; within = tt }
-
-  module _ (e : Entry) (fits : Bool) (state : Continuous) (n : ℕ) (same : accepts p (figuresAt p s) 0 e ≡ fits)
-      (made : stepped p e (figuresAt p s) ≡ figuresWith state n) where
-    placed : fits ≡ true → Placed p (figuresWith state n)
-    placed t =
-        rw made at
-        (stepped-placed p (on .reached .valid) (on .kind) e _ 0 (accepted-zero p _ 0 e (same ∙ t)) (reached-placed p _ (on .reached) (on .kind)))
-
-    ways : Ways p s e fits state n
-    unfolding tried enteredAs soundAt Within
-    ways =
-        record {
-          fails = λ b t z. failed e (same ∙ sym t ∙ not-true b z);
-          counts = λ b t z. placed (sym t ∙ not-false b z) .counts;
-          stands = λ b t z.
-              let stood = placed (sym t ∙ not-false b z) in
-              record { same = rw (same ∙ sym t ∙ not-false b z, made) (ap soundAt (stood .same)); within = stood .within };
-        }
-
-  fits-run : (h : ℕ) (wrong : Bool) → accepts p (figuresAt p s) 0 (Run h (flagOf wrong)) ≡ fitsRun (s .left) h wrong
-  fits-run = run-accepts p blocks s (on .within) (plan-of .clearanceMost)
-
-  pub run-room : (h : ℕ) (wrong b : Bool) → b ≡ fitsRun (s .left) h wrong → not b ≡ false
-      → stateOf (p .a) (s .left) (s .tail) .count + h ≤ p .a
-  unfolding figuresIn
-  run-room h wrong b t z =
-      let allowed = allowed-run p _ 0 h (flagOf wrong) (accepted-zero p _ 0 _ (fits-run h wrong ∙ sym t ∙ not-false b z)) in
-      omega (arith, allowed .fits)
-
-  pub run-ways : (h : ℕ) (wrong : Bool)
-      → Ways p s (Run h (flagOf wrong)) (fitsRun (s .left) h wrong) (afterRun (p .a) h wrong (stateOf (p .a) (s .left) (s .tail))) (s .accepted + h)
-  unfolding stepped creditStep levelStep continuousStep acceptedBy isLot figuresIn
-  run-ways h wrong = ways _ _ _ _ (fits-run h wrong) (rw (flag-test wrong))
-
-  pub block-ways : s .left ≡ 0 → (q : ℕ) (wrong : Bool)
-      → Ways p s (Block q (flagOf wrong)) (within 1 (p .b) q) (afterBlock (p .b) q wrong (stateOf (p .a) (s .left) (s .tail)) .state)
-      (s .accepted + afterBlock (p .b) q wrong (stateOf (p .a) (s .left) (s .tail)) .accepted)
-  unfolding stepped creditStep levelStep continuousStep acceptedBy isLot figuresIn afterBlock
-  block-ways none q wrong = ways _ _ _ _ (block-accepts p blocks s none q wrong) (rw (flag-test wrong))
-
-  -- in sampling no run stands, and in screening no block
-  no-run-here : s .left ≡ 0 → (h w : ℕ) → Steps p s Fails (tried p (figuresAt p s) (Run h w))
-  no-run-here none h w = failed _ (no-run p blocks s none h w)
-
-  pub no-block-here : (s .left ≡ 0 → ⊥) → (q w : ℕ) → Steps p s Fails (tried p (figuresAt p s) (Block q w))
-  no-block-here some q w = failed _ (no-block p blocks s some q w)
-
-  pub stop-ways : (why days : ℕ)
-      → Ways p s (Stop why days) (isStop why days) (afterStop why days (stateOf (p .a) (s .left) (s .tail))) (s .accepted)
-  unfolding tried isDiscontinued noLevel stepped creditStep levelStep continuousStep acceptedBy isLot figuresIn isLevel isContinuous
-  stop-ways why days =
-      let none : s .accepted + 0 ≡ s .accepted = omega arith in
-      ways _ _ _ _ (ap (λ (x : Entered). x .sound) (stop-tried p (figuresAt p s) refl why days)) (rw (on .kind, none))
-
-  unstood : (r : Record) → entered p (figuresAt p s) 0 r ≡ unsoundAt (figuresAt p s) → Steps p s Fails (entered p (figuresAt p s) 0 r)
-  unfolding enteredAs Within
-  unstood r fails = record { same = sym fails; within = tt }
-
-  -- a record of more numbers
-  pub more-failed : (r : Record) → not (oneNumber r) ≡ true → Steps p s Fails (entered p (figuresAt p s) 0 r)
-  more-failed r more =
-      let never : oneNumber r ≡ true → ⊥ = λ one. never-both (oneNumber r) one (not-true _ more) in
-      unstood r
-      (no-record p _ r (λ _. never-both _ blocks) (λ one _ _ _ _. never one) (λ one _ _ _ _. never one) (λ one _ _ _ _. never one))
-
-module _ (p : Plan) (s : Place) (head : ℕ) (r : Record) (known : Headed p s head r) where
-  -- a record of one number, by its head
-  module _ (w : ℕ) (most : w ≤ 1) (x : Step) where
-    pub as-run : head ≡ 2 + w * 256 → Steps p s x (tried p (figuresAt p s) (Run (r .a) w)) → Steps p s x (entered p (figuresAt p s) 0 r)
-    as-run e steps = rw (run-record p _ r (known .read .1) (known .read .2) (known .one) w (omega arith) (sym (known .read .0) ∙ e)) steps
-
-    pub as-block : head ≡ 3 + w * 256 → Steps p s x (tried p (figuresAt p s) (Block (r .a) w)) → Steps p s x (entered p (figuresAt p s) 0 r)
-    as-block e steps = rw (block-record p _ r (known .read .1) (known .read .2) (known .one) w (omega arith) (sym (known .read .0) ∙ e)) steps
-
-  -- what is left in sampling where neither a right nor a wrong block stands, and in screening where neither run does
-  pub rest-sampling : s .left ≡ 0 → (head ≡ 3 → ⊥) → (head ≡ 259 → Steps p s Fails (tried p (figuresAt p s) (Block (r .a) 1)))
-      → NoRunOrBlock p s head r
-  rest-sampling none right wrong =
-      record {
-        known = known;
-        run = λ w most e. as-run w most Fails e (no-run-here p s (known .on) none (r .a) w);
-        block = λ w most e. as-block 1 (omega arith) Fails (omega arith) (wrong (omega arith));
-      }
-
-  pub rest-screening : (s .left ≡ 0 → ⊥) → (head ≡ 2 → ⊥) → (head ≡ 258 → Steps p s Fails (tried p (figuresAt p s) (Run (r .a) 1)))
-      → NoRunOrBlock p s head r
-  rest-screening some right wrong =
-      record {
-        known = known;
-        run = λ w most e. as-run 1 (omega arith) Fails (omega arith) (wrong (omega arith));
-        block = λ w most e. as-block w most Fails e (no-block-here p s (known .on) some (r .a) w);
-      }
-
--- and one that is no stop's either
-pub other-failed : (p : Plan) (s : Place) (head : ℕ) (r : Record) → NoRunOrBlock p s head r → (head ≡ 260 → ⊥) → (head ≡ 516 → ⊥)
-    → Steps p s Fails (entered p (figuresAt p s) 0 r)
-unfolding entered enteredAs unsoundAt
-other-failed p s head r none pause change = unstood p s (none .known .on) r (go (stands p (figuresAt p s) 0 r) refl)
-  where
-    go : (b : Bool) → stands p (figuresAt p s) 0 r ≡ b → entered p (figuresAt p s) 0 r ≡ unsoundAt (figuresAt p s)
-    go true fits =
-        let read = none .known .read in
-        let never : Steps p s Fails (entered p (figuresAt p s) 0 r) → ⊥ =
-        λ steps. never-both _ fits (sym (ap (λ (x : Entered). x .sound) (steps .same))) in
-        no-record p _ r (λ _. never-both _ (blocks p s (none .known .on))) (λ _ w first last e. omega (arith, read .0))
-        (λ _ _ w most e. never (none .run w most (read .0 ∙ e))) (λ _ _ w most e. never (none .block w most (read .0 ∙ e)))
-    go false e = rw e
-
--- a call's figures, and the place that they tell of
-module _ (p : Plan) (f : Figures) (reached : Reached p f) (kind : p .kind ≡ 3) (s : Place) (from : s ≡ placeFrom (p .a) f) where
-  here : figuresAt p s ≡ f
-  here = rw from (reached-placed p f reached kind .same)
-
-  pub call-on : OnContinuous p s
-  call-on = record { kind = kind; reached = rw here reached; within = rw from (reached-placed p f reached kind .within) }
-
-  pub call-stepped : (e : Entry) (x : Step) → Steps p s x (tried p (figuresAt p s) e) → enteredAs (p .a) f x ≡ tried p f e
-  call-stepped e x steps = rw here at (steps .same)
-
-pub flag-back : (w : ℕ) → w ≤ 1 → flagOf (eqb w 1) ≡ w
+flag-back : (w : ℕ) → w ≤ 1 → flagOf (eqb w 1) ≡ w
 flag-back w most = go (eqb w 1) refl
   where
     go : (b : Bool) → eqb w 1 ≡ b → flagOf b ≡ w
     go true e = sym (eqb-true w 1 e)
     go false e = let other = eqb-false w 1 e in omega arith
+
+-- a step that is what an entry, and what a record, gives at a place
+abbrev pub Gives : Plan → Place → Step → Entry → Type 0
+Gives p s x e = Steps p s x (tried p (figuresAt p s) e)
+
+abbrev pub Enters : Plan → Place → Step → Record → Type 0
+Enters p s x r = Steps p s x (entered p (figuresAt p s) 0 r)
+
+-- ---- a step, told in figures
+module _ (clearance : ℕ) (f : Figures) (x : Step) (y : Entered) (gives : enteredAs clearance f x ≡ y) where
+  pub fails-as : x ≡ Fails → enteredWith false f ≡ y
+  unfolding enteredAs unsoundAt
+  fails-as fails = rw fails at gives
+
+  pub stands-as : (g : Figures) (s : Place) → g ≡ figuresIn clearance s → x ≡ Stands s → enteredWith true g ≡ y
+  unfolding enteredAs soundAt
+  stands-as g s same stands = rw same (rw stands at gives)
+
+pub fails-in : (clearance : ℕ) (f : Figures) (x : Step) → x ≡ Fails → enteredWith false f ≡ enteredAs clearance f x
+fails-in clearance f x = fails-as clearance f x (enteredAs clearance f x) refl
+
+module _ (clearance : ℕ) (x : Step) (s : Place) (stands : x ≡ Stands s) where
+  pub stands-in : (f g : Figures) → g ≡ figuresIn clearance s → enteredWith true g ≡ enteredAs clearance f x
+  stands-in f g same = stands-as clearance f x _ refl g s same stands
+
+  pub stands-within : Within clearance x → s .left ≤ clearance
+  unfolding Within
+  stands-within within = rw stands at within
+
+-- ---- figures, and the place that they tell of
+module _ (p : Plan) (f : Figures) (kind : p .kind ≡ 3) (s : Place) (from : s ≡ placeFrom (p .a) f) where
+  module _ (area : List ℕ) (i to : ℕ) (ready : Ready p area f i to) (bytes : AreBytes area) where
+    pub start-ready : Ready p area (figuresAt p s) i to
+    start-ready = rw (from, ready-placed p area i to f ready bytes kind .same) ready
+
+    pub start-within : s .left ≤ p .a
+    start-within = rw from (ready-placed p area i to f ready bytes kind .within)
+
+  module _ (reached : Reached p f) where
+    here : figuresAt p s ≡ f
+    here = rw from (reached-placed p f reached kind .same)
+
+    pub call-on : OnContinuous p s
+    call-on = record { kind = kind; reached = rw here reached; within = rw from (reached-placed p f reached kind .within) }
+
+    module _ (y : Entered) (x : Step) (told : y ≡ enteredAs (p .a) f x) where
+      called : (e : Entry) → Gives p s x e → y ≡ tried p f e
+      called e steps = told ∙ rw here at (steps .same)
+
+      pub run-called : (h w : ℕ) → w ≤ 1 → Gives p s x (Run h (flagOf (eqb w 1))) → y ≡ tried p f (Run h w)
+      run-called h w most steps = called (Run h w) (rw (flag-back w most) at steps)
+
+      pub block-called : (q w : ℕ) → w ≤ 1 → Gives p s x (Block q (flagOf (eqb w 1))) → y ≡ tried p f (Block q w)
+      block-called q w most steps = called (Block q w) (rw (flag-back w most) at steps)
+
+      pub stop-called : (why days : ℕ) → Gives p s x (Stop why days) → y ≡ tried p f (Stop why days)
+      stop-called why days = called (Stop why days)
+
+pub start-counts : (p : Plan) (area : List ℕ) (f : Figures) (i to : ℕ) → Ready p area f i to → AreBytes area → p .kind ≡ 3 → f .continuous .count ≤ p .a
+start-counts p area f i to ready bytes kind = ready-placed p area i to f ready bytes kind .counts
+
+pub call-counts : (p : Plan) (f : Figures) → Reached p f → p .kind ≡ 3 → f .continuous .count ≤ p .a
+call-counts p f reached kind = reached-placed p f reached kind .counts
+
+-- ---- steps
+module _ (p : Plan) (s : Place) (on : OnContinuous p s) where
+  blocks : isContinuous p ≡ true
+  blocks = continuous p (on .reached .valid) (on .kind)
+
+  plan-of : ContinuousPlan p
+  plan-of = continuous-plan p (on .reached .valid) blocks
+
+  -- every sum is in range
+  pub clearance-most : p .a ≤ largestClearance
+  clearance-most = plan-of .clearanceMost
+
+  pub interval-most : p .b ≤ largestInterval
+  interval-most = plan-of .intervalMost
+
+  pub sum-fits : (n : ℕ) → n < 2 ^ 32 → s .accepted + n < 2 ^ 64
+  unfolding figuresIn
+  sum-fits n small = omega (arith, reached-within p _ (on .reached) .acceptedIn)
+
+  failed : (e : Entry) → accepts p (figuresAt p s) 0 e ≡ false → Gives p s Fails e
+  unfolding tried enteredAs unsoundAt Within
+  failed e never = record { same = rw never; within = tt }
+
+  -- an entry by the code's test of whether it fits: it does not; or it does, and leaves the place of the figures after it
+  module _ (e : Entry) (fits : Bool) (state : Continuous) (n : ℕ) (same : accepts p (figuresAt p s) 0 e ≡ fits)
+      (made : stepped p e (figuresAt p s) ≡ figuresWith state n) (fit : fits ≡ true) where
+    placed : Placed p (figuresWith state n)
+    placed =
+        rw made at
+        (stepped-placed p (on .reached .valid) (on .kind) e _ 0 (accepted-zero p _ 0 e (same ∙ fit)) (reached-placed p _ (on .reached) (on .kind)))
+
+    stood : (x : Step) → x ≡ Stands (placeOf (p .a) state n) → Gives p s x e
+    unfolding tried enteredAs soundAt Within
+    stood x stands = rw stands (record { same = rw (same ∙ fit, made) (ap soundAt (placed .same)); within = placed .within })
+
+  -- a run
+  module _ (h : ℕ) (wrong : Bool) where
+    run-fits : accepts p (figuresAt p s) 0 (Run h (flagOf wrong)) ≡ fitsRun (s .left) h wrong
+    run-fits = run-accepts p blocks s (on .within) (plan-of .clearanceMost) h wrong
+
+    run-made : stepped p (Run h (flagOf wrong)) (figuresAt p s)
+        ≡ figuresWith (afterRun (p .a) h wrong (stateOf (p .a) (s .left) (s .tail))) (s .accepted + h)
+    unfolding stepped creditStep levelStep continuousStep acceptedBy isLot figuresIn
+    run-made = rw (flag-test wrong)
+
+    module _ (ok : Bool) (tested : ok ≡ fitsRun (s .left) h wrong) where
+      pub run-fails : not ok ≡ true → Gives p s Fails (Run h (flagOf wrong))
+      run-fails fails = failed _ (run-fits ∙ sym tested ∙ not-true ok fails)
+
+      module _ (fits : not ok ≡ false) (state : Continuous) (here : state ≡ stateOf (p .a) (s .left) (s .tail)) where
+        pub run-room : state .count + h ≤ p .a
+        unfolding figuresIn
+        run-room =
+            let allowed = allowed-run p (figuresAt p s) 0 h (flagOf wrong) (accepted-zero p _ 0 _ (run-fits ∙ sym tested ∙ not-false ok fits)) in
+            rw here (omega (arith, allowed .fits))
+
+        module _ (after : Continuous) (ran : after ≡ afterRun (p .a) h wrong state) where
+          pub run-counts : after .count ≤ p .a
+          run-counts = rw (ran, here) (placed _ _ _ _ run-fits run-made (sym tested ∙ not-false ok fits) .counts)
+
+          pub run-stands : (x : Step) → x ≡ Stands (placeOf (p .a) after (s .accepted + h)) → Gives p s x (Run h (flagOf wrong))
+          run-stands x stands = stood _ _ _ _ run-fits run-made (sym tested ∙ not-false ok fits) x (rw (ran, here) at stands)
+
+  -- a block: in sampling alone
+  pub no-block-here : (q : ℕ) (w : ℕ) → (s .left ≡ 0 → ⊥) → Gives p s Fails (Block q w)
+  no-block-here q w some = failed _ (no-block p blocks s some q w)
+
+  module _ (q : ℕ) (wrong : Bool) (none : s .left ≡ 0) where
+    block-fits : accepts p (figuresAt p s) 0 (Block q (flagOf wrong)) ≡ within 1 (p .b) q
+    block-fits = block-accepts p blocks s none q wrong
+
+    block-made : (gives : Given) → gives ≡ afterBlock (p .b) q wrong (stateOf (p .a) (s .left) (s .tail))
+        → stepped p (Block q (flagOf wrong)) (figuresAt p s) ≡ figuresWith (gives .state) (s .accepted + gives .accepted)
+    unfolding stepped creditStep levelStep continuousStep acceptedBy isLot figuresIn afterBlock
+    block-made gives same = rw (same, flag-test wrong)
+
+    module _ (ok : Bool) (tested : ok ≡ within 1 (p .b) q) where
+      pub block-fails : not ok ≡ true → Gives p s Fails (Block q (flagOf wrong))
+      block-fails fails = failed _ (block-fits ∙ sym tested ∙ not-true ok fails)
+
+      module _ (fits : not ok ≡ false) (state : Continuous) (here : state ≡ stateOf (p .a) (s .left) (s .tail)) (gives : Given)
+          (blocked : gives ≡ afterBlock (p .b) q wrong state) where
+        pub block-counts : gives .state .count ≤ p .a
+        block-counts = placed _ _ _ _ block-fits (block-made gives (rw here at blocked)) (sym tested ∙ not-false ok fits) .counts
+
+        pub block-stands : (x : Step) → x ≡ Stands (placeOf (p .a) (gives .state) (s .accepted + gives .accepted))
+            → Gives p s x (Block q (flagOf wrong))
+        block-stands x stands = stood _ _ _ _ block-fits (block-made gives (rw here at blocked)) (sym tested ∙ not-false ok fits) x stands
+
+  -- a stop
+  module _ (why days : ℕ) where
+    stop-fits : accepts p (figuresAt p s) 0 (Stop why days) ≡ isStop why days
+    unfolding tried isDiscontinued noLevel figuresIn
+    stop-fits = ap (λ (x : Entered). x .sound) (stop-tried p (figuresAt p s) refl why days)
+
+    stop-made : stepped p (Stop why days) (figuresAt p s) ≡ figuresWith (afterStop why days (stateOf (p .a) (s .left) (s .tail))) (s .accepted)
+    unfolding stepped creditStep levelStep continuousStep acceptedBy isLot figuresIn isLevel isContinuous
+    stop-made =
+        let none : s .accepted + 0 ≡ s .accepted = omega arith in
+        rw (on .kind, none)
+
+    module _ (ok : Bool) (tested : ok ≡ isStop why days) where
+      pub stop-fails : not ok ≡ true → Gives p s Fails (Stop why days)
+      stop-fails fails = failed _ (stop-fits ∙ sym tested ∙ not-true ok fails)
+
+      module _ (fits : not ok ≡ false) (state : Continuous) (here : state ≡ stateOf (p .a) (s .left) (s .tail)) (after : Continuous)
+          (stopped : after ≡ afterStop why days state) where
+        pub stop-counts : after .count ≤ p .a
+        stop-counts = rw (stopped, here) (placed _ _ _ _ stop-fits stop-made (sym tested ∙ not-false ok fits) .counts)
+
+        pub stop-stands : (x : Step) → x ≡ Stands (placeOf (p .a) after (s .accepted)) → Gives p s x (Stop why days)
+        stop-stands x stands = stood _ _ _ _ stop-fits stop-made (sym tested ∙ not-false ok fits) x (rw (stopped, here) at stands)
+
+module _ (low high n : ℕ) (ok : Bool) (tested : ok ≡ within low high n) (fits : not ok ≡ false) where
+  pub within-least : low ≤ n
+  within-least = within-of low high n (sym tested ∙ not-false ok fits) .0
+
+  pub within-most : n ≤ high
+  within-most = within-of low high n (sym tested ∙ not-false ok fits) .1
+
+-- ---- records, by how many numbers they have and by their head
+module _ (p : Plan) (s : Place) (r : Record) (on : OnContinuous p s) (more : Bool) (counted : more ≡ not (oneNumber r)) where
+  pub more-fails : more ≡ true → Enters p s Fails r
+  unfolding enteredAs Within
+  more-fails several =
+      let never : oneNumber r ≡ true → ⊥ = λ one. never-both (oneNumber r) one (not-true _ (sym counted ∙ several)) in
+      let stop = stop-record p (figuresAt p s) r (λ _. never-both _ (blocks p s on)) (λ one. absurd (never one)) (λ one. absurd (never one)) in
+      record { same = sym (stop ∙ rw (← why-more r more counted several) (no-stop p _ r (r .a))); within = tt }
+
+  module _ (single : more ≡ false) (head : ℕ) (said : head ≡ headOf r) where
+    one : oneNumber r ≡ true
+    one = not-false _ (sym counted ∙ single)
+
+    module _ (kinds : r .kind < 256) (flags : r .flag < 256) where
+      pub right-run : (x : Step) → Gives p s x (Run (r .a) 0) → head ≡ 2 → Enters p s x r
+      right-run x steps e = rw (run-record p _ r kinds flags one 0 (omega arith) (sym said ∙ e)) steps
+
+      pub wrong-run : (x : Step) → Gives p s x (Run (r .a) 1) → head ≡ 258 → (after : Place) → x ≡ Stands after → Enters p s (Stands after) r
+      wrong-run x steps e after stands = rw (run-record p _ r kinds flags one 1 (omega arith) (sym said ∙ e)) (rw stands at steps)
+
+      pub right-block : (x : Step) → Gives p s x (Block (r .a) 0) → head ≡ 3 → Enters p s x r
+      right-block x steps e = rw (block-record p _ r kinds flags one 0 (omega arith) (sym said ∙ e)) steps
+
+      pub wrong-block : (x : Step) → Gives p s x (Block (r .a) 1) → head ≡ 259 → (after : Place) → x ≡ Stands after → Enters p s (Stands after) r
+      wrong-block x steps e after stands = rw (block-record p _ r kinds flags one 1 (omega arith) (sym said ∙ e)) (rw stands at steps)
+
+-- and a stop's, where no run or block of that head is accepted: of the phase that is, the right one has another head, and the wrong one too or
+-- it does not fit
+refused : (p : Plan) (s : Place) (e : Entry) (x : Step) → x ≡ Fails → Gives p s x e → accepts p (figuresAt p s) 0 e ≡ false
+unfolding tried enteredAs unsoundAt
+refused p s e x fails steps = sym (ap (λ (y : Entered). y .sound) (rw fails at (steps .same)))
+
+module _ (p : Plan) (s : Place) (r : Record) (x : Step) (on : OnContinuous p s) (head why : ℕ) (said : head ≡ headOf r) (stop : why ≡ whyOf r)
+    (steps : Gives p s x (Stop why (r .a))) where
+  left : ((w : ℕ) → w ≤ 1 → head ≡ 2 + w * 256 → accepts p (figuresAt p s) 0 (Run (r .a) w) ≡ false)
+      → ((w : ℕ) → w ≤ 1 → head ≡ 3 + w * 256 → accepts p (figuresAt p s) 0 (Block (r .a) w) ≡ false) → Enters p s x r
+  left run block = rw (
+    stop-record p (figuresAt p s) r (λ _. never-both _ (blocks p s on)) (λ _ _ w most e. run w most (said ∙ e))
+        (λ _ _ w most e. block w most (said ∙ e)),
+    ← stop,
+  ) steps
+
+  module _ (none : s .left ≡ 0) (right : head ≡ 3 → ⊥) where
+    sampling : (head ≡ 259 → accepts p (figuresAt p s) 0 (Block (r .a) 1) ≡ false) → Enters p s x r
+    sampling wrong = left (λ w most e. no-run p (blocks p s on) s none (r .a) w) go
+      where
+        go : (w : ℕ) → w ≤ 1 → head ≡ 3 + w * 256 → accepts p (figuresAt p s) 0 (Block (r .a) w) ≡ false
+        go w most e = let one : w ≡ 1 = omega arith in rw one (wrong (omega arith))
+
+    pub sampling-other : (head ≡ 259 → ⊥) → Enters p s x r
+    sampling-other wrong = sampling (λ e. absurd (wrong e))
+
+    pub sampling-unfit : (y : Step) → y ≡ Fails → Gives p s y (Block (r .a) 1) → Enters p s x r
+    sampling-unfit y fails tried-so = sampling (λ _. refused p s _ y fails tried-so)
+
+  module _ (some : s .left ≡ 0 → ⊥) (right : head ≡ 2 → ⊥) where
+    screening : (head ≡ 258 → accepts p (figuresAt p s) 0 (Run (r .a) 1) ≡ false) → Enters p s x r
+    screening wrong = left go (λ w most e. no-block p (blocks p s on) s some (r .a) w)
+      where
+        go : (w : ℕ) → w ≤ 1 → head ≡ 2 + w * 256 → accepts p (figuresAt p s) 0 (Run (r .a) w) ≡ false
+        go w most e = let one : w ≡ 1 = omega arith in rw one (wrong (omega arith))
+
+    pub screening-other : (head ≡ 258 → ⊥) → Enters p s x r
+    screening-other wrong = screening (λ e. absurd (wrong e))
+
+    pub screening-unfit : (y : Step) → y ≡ Fails → Gives p s y (Run (r .a) 1) → Enters p s x r
+    screening-unfit y fails tried-so = screening (λ _. refused p s _ y fails tried-so)
+
+pub ruleset tells = (fails-as, stands-as, fails-in, stands-in, stands-within, entered-read)
+
+pub ruleset calls = (call-counts, call-on, run-called, block-called, stop-called)
+
+pub ruleset loops = (turns, start-counts, start-ready, start-within)
+
+pub ruleset runs = (clearance-most, sum-fits, run-fails, run-room, run-counts, run-stands)
+
+pub ruleset heard = (interval-most, sum-fits, within-least, within-most, no-block-here, block-fails, block-counts, block-stands)
+
+pub ruleset stops = (stop-fails, stop-counts, stop-stands)
+
+pub ruleset rest = (sampling-other, sampling-unfit, screening-other, screening-unfit)
+
+pub ruleset takes = (more-fails, right-run, wrong-run, right-block, wrong-block, rest)

@@ -1,8 +1,8 @@
 -- A continuous stream (paper 01, "Continuous") as its replay carries it: what is left to be screened, the tail, and how many are
 -- accepted. Assumes nothing.
-use Prim.Native.Nat.{ℕ, _+_, _*_, _-_, _≤_, _<_}
+use Prim.Native.Nat.{ℕ, _+_, _-_, _≤_}
 use mathlib.Core.Path.{_≡_}
-use mathlib.Core.Bool.{Bool, true, cond}
+use mathlib.Core.Bool.{Bool, cond}
 use mathlib.Core.List.{List}
 use lib.Dec.{eqb, ltb}
 use lib.ListN.{length}
@@ -15,7 +15,7 @@ use Rattle.model.specs.Stations.{within}
 use Rattle.model.specs.Figuring.{noLevel, noLabel}
 use Rattle.replaying.specs.declared.Entered.{Entered}
 use Rattle.records.specs.declared.Record.{Record}
-use Rattle.replaying.specs.Replaying.{Reached, entered, soundAt, unsoundAt, headOf, oneNumber}
+use Rattle.replaying.specs.Replaying.{Reached, entered, soundAt, unsoundAt}
 use Rattle.replay_continuous.specs.declared.Place.{Place}
 use Rattle.replay_continuous.specs.declared.Outcome.{Outcome}
 use Rattle.replay_continuous.specs.declared.Step.{Step}
@@ -84,18 +84,6 @@ Within clearance Fails = Unit {0}
 pub record Steps (p : Plan) (s : Place) (x : Step) (gives : Entered) : Type 0 where
   pub same : enteredAs (p .a) (figuresIn (p .a) s) x ≡ gives
   pub within : Within (p .a) x
-
--- a record of one number with this head, read at a place
-pub record Headed (p : Plan) (s : Place) (head : ℕ) (r : Record) : Type 0 where
-  pub on : OnContinuous p s
-  pub read : (head ≡ headOf r) × (r .kind < 256) × (r .flag < 256)
-  pub one : oneNumber r ≡ true
-
--- which does not stand where its head is a run's or a block's
-pub record NoRunOrBlock (p : Plan) (s : Place) (head : ℕ) (r : Record) : Type 0 where
-  pub known : Headed p s head r
-  pub run : (w : ℕ) → w ≤ 1 → head ≡ 2 + w * 256 → Steps p s Fails (entered p (figuresIn (p .a) s) 0 r)
-  pub block : (w : ℕ) → w ≤ 1 → head ≡ 3 + w * 256 → Steps p s Fails (entered p (figuresIn (p .a) s) 0 r)
 
 -- an outcome tells what a record gives
 pub record Tells (p : Plan) (s : Place) (r : Record) (o : Outcome) : Type 0 where

@@ -25,7 +25,6 @@ ghost use Rattle.replay_continuous.specs.Places.{
   enteredAs,
   Within,
   Steps,
-  NoRunOrBlock,
   Tells,
   ReadAt,
 };
@@ -37,7 +36,6 @@ use plans::continuous;
 use plans::continuous::Continuous;
 use plans::credit::Credit;
 use plans::level::LevelState;
-use plans::stops;
 use records::Record;
 use replaying::Entered;
 use rules::plan;
@@ -206,7 +204,7 @@ fn take(plan: Plan, place: Place, read: Record) -> Step
                 return Step::Stands(after);
             }
         }
-        return take_stop(plan, place, head, read);
+        return step_stop(plan, place, replaying::why_of(read), read.a);
     }
     if head == replaying::RUN {
         return step_run(plan, place, read.a, false);
@@ -216,21 +214,7 @@ fn take(plan: Plan, place: Place, read: Record) -> Step
             return Step::Stands(after);
         }
     }
-    take_stop(plan, place, head, read)
-}
-
-// The same of a record that is no run's or block's that fits.
-fn take_stop(plan: Plan, place: Place, head: u32, read: Record) -> Step
-    requires { ⌜ NoRunOrBlock plan place head read ⌝ }
-    ensures { λ r. ⌜ Steps plan place r (entered plan (figuresIn (plan .a) place) 0 read) ⌝ }
-{
-    if head == replaying::PAUSE {
-        return step_stop(plan, place, stops::PAUSE, read.a);
-    }
-    if head == replaying::CHANGE {
-        return step_stop(plan, place, stops::SET_UP_CHANGED, read.a);
-    }
-    Step::Fails
+    step_stop(plan, place, replaying::why_of(read), read.a)
 }
 
 // A run of right detections, then a wrong one if wrong.

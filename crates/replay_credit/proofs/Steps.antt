@@ -1,13 +1,14 @@
--- What an entry gives on a credit stream, in the three numbers. Assumes nothing.
-use Prim.Native.Nat.{ℕ, _+_, _≤_}
-use mathlib.Core.Path.{_≡_, refl, sym, ap, _∙_}
+-- What an entry gives on a credit stream, in the three numbers: each answer from facts in the code's own form, what was tested and what the
+-- callees ensure. The sets at the end are handed to the search, which finds these facts among what a function has learnt. Assumes nothing.
+use Prim.Native.Nat.{ℕ, _+_, _≤_, _<_, _^_}
+use mathlib.Core.Path.{_≡_, refl, sym, _∙_}
 use mathlib.Core.Bool.{Bool, true, false, cond, not, _&&_}
 use mathlib.Core.List.{List}
 use native.Mathlib.Omega.{arith}
 use lib.Dec.{eqb, leb·zero}
 use borrow.Author.Tests.{ne-eqb, not-true, not-false}
 use Rattle.little.specs.Little.{AreBytes}
-use Rattle.plans.specs.Limits.{largestLot, largestAoql}
+use Rattle.plans.specs.Limits.{largestLot, largestAoql, largestCredit}
 use Rattle.plans.specs.Credit.{creditSample, creditVerdict, creditAfter}
 use Rattle.plans.specs.Verdicts.{acceptedOf}
 use Rattle.model.specs.declared.Plan.{Plan}
@@ -20,51 +21,67 @@ use Rattle.model.proofs.Allowed.{plan-range}
 use Rattle.model.proofs.Booleans.{both-true}
 use Rattle.rules.specs.Refusing.{mayFollow, isStop}
 use Rattle.rules.proofs.Counts.{all-at-most}
+use Rattle.replaying.specs.declared.Entered.{Entered}
 use Rattle.replaying.specs.Replaying.{Reached, Ready, enteredIf, tried, askedLot, soundAt, unsoundAt}
 use Rattle.replaying.specs.LotStreams.{lotFigures}
-use Rattle.replaying.proofs.LotStreams.{numbers-kept, lot-numbers, stop-numbers, follower-size}
-use Rattle.replaying.proofs.Reached.{Left, no-level, reached-left, reached-within, ready-left}
-use Rattle.replaying.proofs.Tried.{lot-tried, stop-tried}
+use Rattle.replaying.proofs.LotStreams.{numbers-kept, lot-numbers, stop-numbers, follower-size, lot-records}
+use Rattle.replaying.proofs.Reached.{Left, no-level, reached-left, reached-within, ready-left, turns}
+use Rattle.replaying.proofs.Tried.{enteredWith, entered-read, lot-tried, stop-tried}
 use Rattle.replay_credit.specs.declared.Carried.{Carried}
 use Rattle.replay_credit.specs.declared.Step.{Step}
 use Rattle.replay_credit.specs.declared.Step.the-variants.{Stands, Fails}
 use Rattle.replay_credit.specs.Carrying.{figuresIn, carriedFrom, OnCredit, enteredAs}
 
--- the numbers of figures stand for them
+-- ---- a step, told in figures
+module _ (f : Figures) (x : Step) (y : Entered) (gives : enteredAs f x ≡ y) where
+  pub fails-as : x ≡ Fails → enteredWith false f ≡ y
+  unfolding enteredAs unsoundAt
+  fails-as fails = rw fails at gives
+
+  pub stands-as : (g : Figures) (s : Carried) → g ≡ figuresIn s → x ≡ Stands s → enteredWith true g ≡ y
+  unfolding enteredAs soundAt
+  stands-as g s same stands = rw same (rw stands at gives)
+
+pub stands-in : (f : Figures) (x : Step) (g : Figures) (s : Carried) → g ≡ figuresIn s → x ≡ Stands s → enteredWith true g ≡ enteredAs f x
+stands-in f x = stands-as f x (enteredAs f x) refl
+
+-- a step that is what a lot, and what a stop, gives on the numbers
+abbrev pub LotGives : Plan → Carried → ℕ → ℕ → ℕ → ℕ → Step → Type 0
+LotGives p s label N d D x = enteredAs (figuresIn s) x ≡ tried p (figuresIn s) (askedLot p (figuresIn s) label N d D)
+
+abbrev pub StopGives : Plan → Carried → ℕ → ℕ → Step → Type 0
+StopGives p s why days x = enteredAs (figuresIn s) x ≡ tried p (figuresIn s) (Stop why days)
+
+-- ---- the numbers of figures stand for them
 module _ (p : Plan) (f : Figures) (kind : p .kind ≡ 1) (s : Carried) (same : s ≡ carriedFrom f) where
   kept-left : Left p f → figuresIn s ≡ f
   unfolding figuresIn isLevel isContinuous
   kept-left left = rw same (numbers-kept p f left (rw kind) _ _ refl (no-level p f left (rw kind)))
 
-  pub kept-ready : (area : List ℕ) (i to : ℕ) → AreBytes area → Ready p area f i to → Ready p area (figuresIn s) i to
-  kept-ready area i to bytes ready = rw (kept-left (ready-left p area f i to ready bytes)) ready
+  pub kept-ready : (area : List ℕ) (i to : ℕ) → Ready p area f i to → AreBytes area → Ready p area (figuresIn s) i to
+  kept-ready area i to ready bytes = rw (kept-left (ready-left p area f i to ready bytes)) ready
 
   module _ (reached : Reached p f) where
-    pub kept : figuresIn s ≡ f
+    kept : figuresIn s ≡ f
     kept = kept-left (reached-left p f reached)
 
-    pub on-credit : OnCredit p s
-    on-credit = record { kind = kind; reached = rw kept reached }
+    pub call-on : OnCredit p s
+    call-on = record { kind = kind; reached = rw kept reached }
 
--- a test in the step, and in what is entered
+    module _ (y : Entered) (x : Step) (told : y ≡ enteredAs f x) where
+      pub lot-called : (label N d D : ℕ) → LotGives p s label N d D x → y ≡ tried p f (askedLot p f label N d D)
+      lot-called label N d D made = told ∙ rw kept at made
+
+      pub stop-called : (why days : ℕ) → StopGives p s why days x → y ≡ tried p f (Stop why days)
+      stop-called why days made = told ∙ rw kept at made
+
+-- ---- steps
+
+-- by a test
 by-test : (b : Bool) (f : Figures) (s : Carried) → enteredAs f (cond b (Stands s) Fails) ≡ enteredIf b (figuresIn s) f
 unfolding enteredAs soundAt unsoundAt
 by-test true f s = refl
 by-test false f s = refl
-
--- nothing wrong in the sample, something in all that was heard
-pub missed : (v N n d D : ℕ) → d ≡ 0 → (D ≡ 0 → ⊥) → countsAgree v N n d D ≡ false
-unfolding countsAgree
-missed v N n d D none some = simp (none, ne-eqb D 0 some, leb·zero)
-
--- a lot may follow: then every sum is in range
-pub record Follows (p : Plan) (s : Carried) (label N : ℕ) : Type 0 where
-  pub may : mayFollow 1 (s .newest) label N ≡ true
-  pub ranges : (s .credit ≤ 127000000) × (s .accepted ≤ 127000000) × (p .a ≤ largestAoql) × (1 ≤ N) × (N ≤ largestLot)
-
--- the numbers after a lot with verdict v
-abbrev afterLot : Carried → ℕ → ℕ → ℕ → ℕ → ℕ → Carried
-afterLot s label N d D v = record { credit = creditAfter (s .credit) N d; accepted = s .accepted + acceptedOf v N D; newest = label }
 
 module _ (p : Plan) (s : Carried) (on : OnCredit p s) where
   pub lots : isContinuous p ≡ false
@@ -75,23 +92,35 @@ module _ (p : Plan) (s : Carried) (on : OnCredit p s) where
   unfolding isDiscontinued figuresIn lotFigures noLevel
   running = refl
 
-  pub lot-follows : (label N : ℕ) (r : Bool) → r ≡ mayFollow 1 (s .newest) label N → not r ≡ false → Follows p s label N
-  unfolding figuresIn lotFigures
-  lot-follows label N r tested said =
-      let may : mayFollow 1 (s .newest) label N ≡ true = sym tested ∙ not-false r said in
-      let size = follower-size 1 (s .newest) label N may in
-      let fits = reached-within p (figuresIn s) (on .reached) in
-      record { may = may; ranges = (fits .credits, fits .acceptedIn, plan-range p (on .reached .valid) .aTo, size .0, size .1) }
-
   -- "On credit streams it is entered without effect"
-  pub stop-given : (why days : ℕ) (x : Step) → x ≡ cond (isStop why days) (Stands s) Fails
-      → enteredAs (figuresIn s) x ≡ tried p (figuresIn s) (Stop why days)
+  stop-given : (why days : ℕ) (b : Bool) → isStop why days ≡ b → StopGives p s why days (cond b (Stands s) Fails)
   unfolding figuresIn levelStep isLevel
-  stop-given why days x same =
-      ap (enteredAs (figuresIn s)) same
-      ∙ by-test (isStop why days) (figuresIn s) s
-      ∙ sym (stop-tried p (figuresIn s) running why days ∙ rw (stop-numbers (s .credit) noLevel (s .accepted) (s .newest) p why days lots, on .kind))
+  stop-given why days b test =
+      by-test b (figuresIn s) s
+      ∙ sym
+      (stop-tried p (figuresIn s) running why days
+      ∙ rw (stop-numbers (s .credit) noLevel (s .accepted) (s .newest) p why days lots, on .kind, test))
 
+  module _ (why days : ℕ) (ok : Bool) (tested : ok ≡ isStop why days) where
+    pub stop-stands : ok ≡ true → StopGives p s why days (Stands s)
+    stop-stands fits = stop-given why days true (sym tested ∙ fits)
+
+    pub stop-fails : ok ≡ false → StopGives p s why days Fails
+    stop-fails fits = stop-given why days false (sym tested ∙ fits)
+
+  -- every sum is in range
+  pub credit-most : s .credit ≤ largestCredit
+  unfolding figuresIn lotFigures
+  credit-most = omega (arith, reached-within p (figuresIn s) (on .reached) .credits)
+
+  pub plan-most : p .a ≤ largestAoql
+  plan-most = plan-range p (on .reached .valid) .aTo
+
+  pub sum-fits : (n : ℕ) → n < 2 ^ 32 → s .accepted + n < 2 ^ 64
+  unfolding figuresIn lotFigures
+  sum-fits n small = omega (arith, reached-within p (figuresIn s) (on .reached) .acceptedIn)
+
+  -- a lot, judged by the verdict and the sample of its credit
   module _ (label N d D v n : ℕ) (judged : v ≡ creditVerdict (s .credit) (eqb (p .option) 1) d)
       (asked : n ≡ creditSample (s .credit) N (p .a)) where
     judged-so : verdictOn p (figuresIn s) d ≡ v
@@ -106,22 +135,75 @@ module _ (p : Plan) (s : Carried) (on : OnCredit p s) where
     unfolding sameLabel sizeInRange isLevel mayFollow figuresIn lotFigures
     following = rw (on .kind)
 
-    stepped-so : stepped p (askedLot p (figuresIn s) label N d D) (figuresIn s) ≡ figuresIn (afterLot s label N d D v)
-    unfolding askedLot figuresIn creditStep isCredit levelStep isLevel
+    after : Carried
+    after = record { credit = creditAfter (s .credit) N d; accepted = s .accepted + acceptedOf v N D; newest = label }
+
+    stepped-so : stepped p (askedLot p (figuresIn s) label N d D) (figuresIn s) ≡ figuresIn after
+    unfolding after askedLot figuresIn creditStep isCredit levelStep isLevel
     stepped-so = lot-numbers (s .credit) noLevel (s .accepted) (s .newest) p label N _ d D ∙ rw (judged-so, on .kind)
 
-    pub lot-given : (x : Step) → x ≡ cond (mayFollow 1 (s .newest) label N && countsAgree v N n d D) (Stands (afterLot s label N d D v)) Fails
-        → enteredAs (figuresIn s) x ≡ tried p (figuresIn s) (askedLot p (figuresIn s) label N d D)
-    lot-given x same =
-        ap (enteredAs (figuresIn s)) same
-        ∙ by-test (mayFollow 1 (s .newest) label N && countsAgree v N n d D) (figuresIn s) (afterLot s label N d D v)
-        ∙ sym (lot-tried p (figuresIn s) running lots label N d D ∙ rw (judged-so, asked-so, following, stepped-so))
+    lot-given : (b : Bool) → mayFollow 1 (s .newest) label N && countsAgree v N n d D ≡ b → LotGives p s label N d D (cond b (Stands after) Fails)
+    lot-given b test =
+        by-test b (figuresIn s) after
+        ∙ sym (lot-tried p (figuresIn s) running lots label N d D ∙ rw (judged-so, asked-so, following, stepped-so, test))
 
     -- no more is wrong than the lot holds
-    pub wrong-at-most : Follows p s label N → countsAgree v N n d D ≡ true → D ≤ N
-    wrong-at-most lot agree =
-        let both = both-true (not (sameLabel (figuresIn s) label)) (sizeInRange p N) (following ∙ lot .may) in
+    pub wrong-at-most : mayFollow 1 (s .newest) label N ≡ true → countsAgree v N n d D ≡ true → D ≤ N
+    wrong-at-most may agree =
+        let both = both-true (not (sameLabel (figuresIn s) label)) (sizeInRange p N) (following ∙ may) in
         let other = not-true (sameLabel (figuresIn s) label) (both .0) in
         let counts : countsAgree (verdictOn p (figuresIn s) d) N n d D ≡ true = rw judged-so agree in
         all-at-most p (figuresIn s) 0 label N n d D
         (record { lots = lots; running = running; room = omega arith; otherLabel = other; size = both .1; sample = sym asked-so; counts = counts })
+
+  -- the answers of the code
+  module _ (label N : ℕ) (may : Bool) (tested : may ≡ mayFollow 1 (s .newest) label N) where
+    pub lot-refused : (d D : ℕ) → not may ≡ true → LotGives p s label N d D Fails
+    lot-refused d D fails = lot-given label N d D _ _ refl refl false (rw (sym tested ∙ not-true may fails))
+
+    module _ (fits : not may ≡ false) where
+      follows : mayFollow 1 (s .newest) label N ≡ true
+      follows = sym tested ∙ not-false may fits
+
+      -- nothing wrong in the sample, something in all that was heard
+      pub lot-missed : (d D : ℕ) → d ≡ 0 → ((d ≡ 0) × (D ≡ 0) → ⊥) → LotGives p s label N d D Fails
+      unfolding countsAgree
+      lot-missed d D none some = lot-given label N d D _ _ refl refl false
+          (rw follows (simp (none, ne-eqb D 0 (λ z. some (none, z)), leb·zero)))
+
+      pub good-stands : (credit : ℕ) → credit ≡ creditAfter (s .credit) N 0
+          → LotGives p s label N 0 0 (Stands (record { credit = credit; accepted = s .accepted + N; newest = label }))
+      unfolding creditVerdict acceptedOf countsAgree after
+      good-stands credit same = rw same (lot-given label N 0 0 1 _ refl refl true (rw (follows, leb·zero)))
+
+      module _ (d D v n : ℕ) (judged : v ≡ creditVerdict (s .credit) (eqb (p .option) 1) d) (asked : n ≡ creditSample (s .credit) N (p .a))
+          (agree : Bool) (counted : agree ≡ countsAgree v N n d D) where
+        pub lot-disagrees : not agree ≡ true → LotGives p s label N d D Fails
+        lot-disagrees fails = lot-given label N d D v n judged asked false (rw (follows, sym counted ∙ not-true agree fails))
+
+        pub lot-stands : not agree ≡ false → (credit accepted : ℕ) → credit ≡ creditAfter (s .credit) N d → accepted ≡ acceptedOf v N D
+            → LotGives p s label N d D (Stands (record { credit = credit; accepted = s .accepted + accepted; newest = label }))
+        unfolding after
+        lot-stands agrees credit accepted left given =
+            rw (left, given) (lot-given label N d D v n judged asked true (rw (follows, sym counted ∙ not-false agree agrees)))
+
+module _ (newest label N : ℕ) (may : Bool) (tested : may ≡ mayFollow 1 newest label N) (fits : not may ≡ false) where
+  pub size-least : 1 ≤ N
+  size-least = follower-size 1 newest label N (sym tested ∙ not-false may fits) .0
+
+  pub size-most : N ≤ largestLot
+  size-most = follower-size 1 newest label N (sym tested ∙ not-false may fits) .1
+
+pub ruleset tells = (fails-as, stands-as, stands-in, entered-read)
+
+pub ruleset calls = (call-on, lot-called, stop-called)
+
+pub ruleset loops = (turns, kept-ready)
+
+pub ruleset takes = (lot-records, lots)
+
+pub ruleset stops = (stop-stands, stop-fails)
+
+pub ruleset ranges = (credit-most, plan-most, sum-fits, size-least, size-most)
+
+pub ruleset steps = (ranges, lot-refused, lot-missed, good-stands, lot-disagrees, lot-stands)

@@ -3,12 +3,11 @@
 // write. What an entry can change is carried in three numbers, so that the loop keeps them in registers; `specs/Carrying.antt` has the
 // figures that they stand for.
 ghost use mathlib.Core.Path.{_≡_};
-ghost use mathlib.Core.Bool.{false};
 ghost use Rattle.little.specs.Little.{part};
 ghost use Rattle.model.specs.Sizes.{recordLength};
 ghost use Rattle.model.specs.declared.Entry.the-variants.{Stop};
 ghost use Rattle.records.specs.Records.{recordIn};
-ghost use Rattle.replaying.specs.Replaying.{Ready, Replayed, Reached, entered, tried, askedLot, headOf, faultless};
+ghost use Rattle.replaying.specs.Replaying.{Ready, Replayed, Reached, entered, tried, askedLot};
 ghost use Rattle.replay_credit.specs.Carrying.{figuresIn, carriedFrom, OnCredit, enteredAs, toldAs, ReadAt};
 use model::Figures;
 use model::Plan;
@@ -18,7 +17,6 @@ use plans::continuous::Continuous;
 use plans::credit::Credit;
 use plans::level::LevelState;
 use plans::limits;
-use plans::stops;
 use plans::verdict;
 use records::Record;
 use replaying::Entered;
@@ -51,18 +49,19 @@ pub fn replay(area: &[u8], plan: Plan, figures: Figures, from: usize, to: usize)
     let mut carried = carried_from(figures);
     let mut i = from;
     while i < to {
-        let Step::Stands(next) = enter_at(
+        let next = brought(
             area,
             plan,
             carried,
             sizes::HEADER_LENGTH + sizes::RECORD_LENGTH * i,
-        ) else {
+        );
+        if !next.stands {
             return Entered {
                 sound: false,
                 figures: figures_of(carried),
             };
-        };
-        carried = next;
+        }
+        carried = next.carried;
         i += 1;
     }
     Entered {
@@ -120,19 +119,6 @@ fn entered_as(figures: Figures, step: Step) -> Entered
     }
 }
 
-// Enters the record at an offset, told as a step, as the loop over a level stream needs it. Here nothing in speed hangs on it.
-fn enter_at(area: &[u8], plan: Plan, carried: Carried, at: usize) -> Step
-    requires { ⌜ ReadAt plan (now area) carried at ⌝ }
-    ensures { λ r. ⌜ enteredAs (figuresIn carried) r ≡ entered plan (figuresIn carried) 0 (recordIn (part at recordLength (now (area .entry)))) ⌝ }
-{
-    let next = brought(area, plan, carried, at);
-    if next.stands {
-        let after = next.carried;
-        return Step::Stands(after);
-    }
-    Step::Fails
-}
-
 // The numbers are lent to `bring` here alone, so that no other function has a reference to them.
 fn brought(area: &[u8], plan: Plan, carried: Carried, at: usize) -> Outcome
     requires { ⌜ ReadAt plan (now area) carried at ⌝ }
@@ -161,7 +147,7 @@ fn next(area: &[u8], plan: Plan, carried: Carried, at: usize) -> Outcome
     requires { ⌜ ReadAt plan (now area) carried at ⌝ }
     ensures { λ r. ⌜ toldAs r ≡ entered plan (figuresIn carried) 0 (recordIn (part at recordLength (now (area .entry)))) ⌝ }
 {
-    let Step::Stands(after) = take(area, plan, carried, at) else {
+    let Step::Stands(after) = take(plan, carried, records::get_record_at(area, at)) else {
         return Outcome {
             stands: false,
             carried,
@@ -173,47 +159,18 @@ fn next(area: &[u8], plan: Plan, carried: Carried, at: usize) -> Outcome
     }
 }
 
-// What the record at an offset does to the numbers, and whether it could stand: the step of the entry that it holds. A lot without fault
-// is known by one test of its bytes, and each branch reads the record for itself, so that it loads the numbers that it looks at.
-fn take(area: &[u8], plan: Plan, carried: Carried, at: usize) -> Step
-    requires { ⌜ ReadAt plan (now area) carried at ⌝ }
-    ensures { λ r. ⌜ enteredAs (figuresIn carried) r ≡ entered plan (figuresIn carried) 0 (recordIn (part at recordLength (now (area .entry)))) ⌝ }
-{
-    if !replaying::is_faultless(area, at) {
-        return take_other(area, plan, carried, at);
-    }
-    let read = records::get_record_at(area, at);
-    step_good_lot(plan, carried, read.a, read.b)
-}
-
-// The same of a record that is no lot without fault: a stop, or a lot with something wrong.
-fn take_other(area: &[u8], plan: Plan, carried: Carried, at: usize) -> Step
-    requires { ⌜ ReadAt plan (now area) carried at × (faultless (recordIn (part at recordLength (now area))) ≡ false) ⌝ }
-    ensures { λ r. ⌜ enteredAs (figuresIn carried) r ≡ entered plan (figuresIn carried) 0 (recordIn (part at recordLength (now (area .entry)))) ⌝ }
-{
-    if replaying::head_at(area, at) != replaying::LOT {
-        return take_stop(plan, carried, records::get_record_at(area, at));
-    }
-    let read = records::get_record_at(area, at);
-    step_wrong_lot(plan, carried, read.a, read.b, read.c, read.d)
-}
-
-// The same of a record that is no lot's.
-fn take_stop(plan: Plan, carried: Carried, read: Record) -> Step
-    requires { ⌜ OnCredit plan carried × (headOf read ≡ 1 → ⊥) ⌝ }
+// What a record does to the numbers, and whether it could stand: the step of the entry that it holds.
+fn take(plan: Plan, carried: Carried, read: Record) -> Step
+    requires { ⌜ OnCredit plan carried ⌝ }
     ensures { λ r. ⌜ enteredAs (figuresIn carried) r ≡ entered plan (figuresIn carried) 0 read ⌝ }
 {
-    if replaying::has_more(read) {
-        return Step::Fails;
+    if replaying::is_faultless(read) {
+        return step_good_lot(plan, carried, read.a, read.b);
     }
-    let head = replaying::head_of(read);
-    if head == replaying::PAUSE {
-        return step_stop(plan, carried, stops::PAUSE, read.a);
+    if replaying::head_of(read) != replaying::LOT {
+        return step_stop(plan, carried, replaying::why_of(read), read.a);
     }
-    if head == replaying::CHANGE {
-        return step_stop(plan, carried, stops::SET_UP_CHANGED, read.a);
-    }
-    Step::Fails
+    step_wrong_lot(plan, carried, read.a, read.b, read.c, read.d)
 }
 
 // A lot.

@@ -1,7 +1,7 @@
 -- How small and how large the sample of a level lot can be: Table 2's numbers grow down a column and to the left, and no sample is larger
 -- than its lot. Assumes nothing.
 use Prim.Native.Nat.{ℕ, _+_, _-_, _≤_, _<_}
-use mathlib.Core.Path.{_≡_, sym, _∙_}
+use mathlib.Core.Path.{_≡_, refl, sym, _∙_}
 use mathlib.Core.Bool.{Bool, true, false}
 use native.Mathlib.Omega.{arith}
 use lib.Dec.{eqb, leb, leb→le}
@@ -38,16 +38,18 @@ module _ (vl severity N d D : ℕ) where
   counts-differ e = rw (ne-eqb D d e)
 
   module _ (same : D ≡ d) where
-    pub by-sample : leb d (levelSample vl severity N) ≡ fitsSample vl severity N d D
+    pub by-sample : (n : ℕ) → n ≡ levelSample vl severity N → leb d n ≡ fitsSample vl severity N d D
     unfolding fitsSample
-    by-sample = rw (eq-eqb D d same)
+    by-sample n asked = rw (asked, eq-eqb D d same)
 
     pub too-many : N < d → false ≡ fitsSample vl severity N d D
     unfolding levelSample
-    too-many many = sym (lt-leb d (levelSample vl severity N) (omega arith)) ∙ by-sample
+    too-many many = sym (lt-leb d (levelSample vl severity N) (omega arith)) ∙ by-sample _ refl
 
-    pub within-least : vl ≤ 7 → d ≤ N → d ≤ tabled A (columnAt vl reduced) → true ≡ fitsSample vl severity N d D
+    pub within-least : (n : ℕ) → n ≡ tabled A (columnAt vl reduced) → d ≤ n → d ≤ N → vl ≤ 7 → true ≡ fitsSample vl severity N d D
     unfolding levelSample
-    within-least h size few =
+    within-least n least few size h =
         let most = column-least vl severity (codeLetter vl N) (omega arith) (code-letter-below vl N) in
-        sym (le-leb d (levelSample vl severity N) (omega arith)) ∙ by-sample
+        sym (le-leb d (levelSample vl severity N) (omega arith)) ∙ by-sample _ refl
+
+pub ruleset samples = (counts-differ, by-sample, too-many, within-least)

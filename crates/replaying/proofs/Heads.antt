@@ -1,21 +1,15 @@
--- A record's first four bytes as one number. Assumes nothing.
+-- A record's first four bytes as one number, and what is known by them: a lot without fault, and the why of a stop. Assumes nothing.
 use Prim.Native.Nat.{ℕ, _+_, _*_, _≤_, _<_}
-use mathlib.Core.Path.{_≡_, refl, _∙_}
-use mathlib.Core.Bool.{Bool, true, false, _&&_}
-use mathlib.Core.List.{List}
+use mathlib.Core.Path.{_≡_, refl, sym, _∙_}
+use mathlib.Core.Bool.{Bool, true, false, cond, not, _&&_, and-false}
 use native.Mathlib.Omega.{arith}
-use lib.Bits.{bitOr, bitXor}
 use lib.Dec.{eqb}
-use lib.ListN.{length}
-use borrow.Author.Tests.{eqb-true, eqb-false, eq-eqb, ne-eqb}
-use Rattle.little.specs.Little.{value, part}
-use Rattle.little.proofs.Laws.{value-two, value-four, value-eight}
-use Rattle.model.specs.Sizes.{recordLength}
+use borrow.Author.Needs.{needs}
+use borrow.Author.Tests.{eqb-true, eqb-false, eq-eqb, ne-eqb, le-leb, not-true, not-false}
+use Rattle.model.specs.Stations.{within}
+use Rattle.model.proofs.Booleans.{both-true, within-of}
 use Rattle.records.specs.declared.Record.{Record}
-use Rattle.records.specs.Records.{recordIn}
-use Rattle.records.proofs.Laws.{record-read}
-use Rattle.replaying.specs.Replaying.{headOf, faultless}
-use Rattle.records.proofs.Together.{one-and-zero}
+use Rattle.replaying.specs.Replaying.{oneNumber, headOf, faultless, holdsStop, whyOf}
 
 -- the head says kind, flag and the two zero bytes
 pub head-is : (r : Record) (k w : ℕ) → r .kind < 256 → r .flag < 256 → k < 256 → w < 256 → headOf r ≡ k + w * 256
@@ -32,18 +26,65 @@ both-zero c d = go (eqb c 0) (eqb d 0) refl refl
     go true false e g = ne-eqb (c + d * 4294967296) 0 (λ z. eqb-false d 0 g (omega arith))
     go false y e g = ne-eqb (c + d * 4294967296) 0 (λ z. eqb-false c 0 e (omega arith))
 
--- a record's head, and whether nothing is wrong in a lot, each in one load
-module _ (area : List ℕ) (at : ℕ) (fits : at + recordLength ≤ length area) where
-  pub head-read : value (part at 4 area) ≡ headOf (recordIn (part at recordLength area))
-  unfolding headOf
-  head-read =
-      let third : at + 2 + 1 ≡ at + 3 = omega arith in
-      rw (record-read area at, ← value-four at area (omega arith), ← value-two (at + 2) area (omega arith), third) (omega arith)
+-- a lot without fault is known by one number
+pub faultless-sum : (r : Record) (head : ℕ) → head ≡ headOf r → eqb (head + r .c * 2 + r .d * 4) 1 ≡ faultless r
+unfolding faultless
+faultless-sum r head said = rw (← said) (go (eqb head 1) (eqb (r .c) 0) (eqb (r .d) 0) refl refl refl)
+  where
+    go : (x y z : Bool) → eqb head 1 ≡ x → eqb (r .c) 0 ≡ y → eqb (r .d) 0 ≡ z → eqb (head + r .c * 2 + r .d * 4) 1 ≡ x && (y && z)
+    go true true true e f g = eq-eqb (head + r .c * 2 + r .d * 4) 1 (omega (arith, eqb-true head 1 e, eqb-true (r .c) 0 f, eqb-true (r .d) 0 g))
+    go true true false e f g = ne-eqb (head + r .c * 2 + r .d * 4) 1 (λ same. eqb-false (r .d) 0 g (omega (arith, eqb-true head 1 e)))
+    go true false z e f g = ne-eqb (head + r .c * 2 + r .d * 4) 1 (λ same. eqb-false (r .c) 0 f (omega (arith, eqb-true head 1 e)))
+    go false y z e f g = ne-eqb (head + r .c * 2 + r .d * 4) 1 (λ same. eqb-false head 1 e (omega arith))
 
-  pub faultless-read : (head : ℕ) → head ≡ headOf (recordIn (part at recordLength area))
-      → eqb (bitOr (bitXor head 1) (value (part (at + 12) 8 area))) 0 ≡ faultless (recordIn (part at recordLength area))
-  unfolding faultless
-  faultless-read head read =
-      let next : at + 12 + 4 ≡ at + 16 = omega arith in
-      let counts = both-zero (value (part (at + 12) 4 area)) (value (part (at + 16) 4 area)) in
-      one-and-zero head _ ∙ rw (read, record-read area at, ← value-eight (at + 12) area (omega arith), next, counts)
+-- what a stop's record is
+pub record StopForm (r : Record) : Type 0 where
+  pub kind : r .kind ≡ 4
+  pub first : 1 ≤ r .flag
+  pub last : r .flag ≤ 2
+  pub spare : r .spare ≡ 0
+  pub one : oneNumber r ≡ true
+
+pub stop-held : (r : Record) → StopForm r → holdsStop r ≡ true
+unfolding holdsStop within
+stop-held r form = rw (form .kind, form .spare, form .one, le-leb 1 (r .flag) (form .first), le-leb (r .flag) 2 (form .last))
+
+pub stop-form : (r : Record) → holdsStop r ≡ true → StopForm r
+unfolding holdsStop
+stop-form r e =
+    let all = both-true (eqb (r .kind) 4 && within 1 2 (r .flag) && eqb (r .spare) 0) (oneNumber r) e in
+    let three = both-true (eqb (r .kind) 4 && within 1 2 (r .flag)) (eqb (r .spare) 0) (all .0) in
+    let two = both-true (eqb (r .kind) 4) (within 1 2 (r .flag)) (three .0) in
+    let why = within-of 1 2 (r .flag) (two .1) in
+    record {
+      kind = eqb-true (r .kind) 4 (two .0);
+      first = why .0;
+      last = why .1;
+      spare = eqb-true (r .spare) 0 (three .1);
+      one = all .1;
+    }
+
+-- the why of the stop in a record, each answer from what was tested: has it more numbers than one, and which head
+module _ (r : Record) (more : Bool) (counted : more ≡ not (oneNumber r)) where
+  pub why-more : more ≡ true → 0 ≡ whyOf r
+  unfolding whyOf holdsStop
+  why-more e = rw (not-true (oneNumber r) (sym counted ∙ e), and-false _)
+
+  module _ (one : more ≡ false) (head : ℕ) (said : head ≡ headOf r) where
+    pub why-headed : r .kind < 256 → r .flag < 256 → (w : ℕ) → 1 ≤ w → w ≤ 2 → head ≡ 4 + w * 256 → w ≡ whyOf r
+    unfolding whyOf
+    why-headed kinds flags w least most e =
+        let form = head-is r 4 w kinds flags (omega arith) (omega arith) (sym said ∙ e) in
+        let alone : oneNumber r ≡ true = not-false _ (sym counted ∙ one) in
+        let stop : StopForm r = record { kind = form .0; first = omega arith; last = omega arith; spare = form .2; one = alone } in
+        rw (stop-held r stop) (sym (form .1))
+
+    pub why-none : (head ≡ 260 → ⊥) → (head ≡ 516 → ⊥) → 0 ≡ whyOf r
+    unfolding whyOf headOf
+    why-none pause change = go (holdsStop r) refl
+      where
+        go : (b : Bool) → holdsStop r ≡ b → 0 ≡ cond b (r .flag) 0
+        go true e = let stop = stop-form r e in omega arith
+        go false e = refl
+
+pub ruleset whys = (needs, why-more, why-headed, why-none)

@@ -1,9 +1,8 @@
 -- Streams for lots: the numbers that a replay carries say all of their figures, and which records stand. Assumes nothing.
 use Prim.Native.Nat.{ℕ, _+_, _≤_}
-use mathlib.Core.Path.{_≡_, refl, sym}
-use mathlib.Core.Bool.{true, false, not, _&&_}
+use mathlib.Core.Path.{_≡_, refl, sym, _∙_}
+use mathlib.Core.Bool.{Bool, true, false, not, _&&_}
 use native.Mathlib.Nat.{add-zero}
-use native.Mathlib.Omega.{arith}
 use lib.Dec.{eqb}
 use borrow.Author.Tests.{eqb-true, eq-eqb}
 use Rattle.plans.specs.Limits.{largestLot}
@@ -17,10 +16,11 @@ use Rattle.model.specs.Figuring.{verdictOn, acceptedBy, creditStep, levelStep, 
 use Rattle.model.proofs.Booleans.{both-true, never-both, within-of}
 use Rattle.rules.specs.Refusing.{mayFollow}
 use Rattle.records.specs.declared.Record.{Record}
-use Rattle.replaying.specs.Replaying.{headOf, oneNumber, faultless, entered, tried, askedLot, unsoundAt}
+use Rattle.replaying.specs.declared.Entered.{Entered}
+use Rattle.replaying.specs.Replaying.{headOf, faultless, whyOf, entered, tried, askedLot}
 use Rattle.replaying.specs.LotStreams.{lotFigures}
 use Rattle.replaying.proofs.Reached.{Left, no-continuous}
-use Rattle.replaying.proofs.Tried.{lot-record, no-record}
+use Rattle.replaying.proofs.Tried.{lot-record, stop-record}
 
 -- ---- the numbers
 
@@ -32,8 +32,7 @@ numbers-kept p f left lots K L credit level = rw (← credit, ← level, ← no-
 
 module _ (K : ℕ) (L : LevelState) (A newest : ℕ) where
   -- the numbers after a lot, and after a stop
-  pub lot-numbers : (p : Plan) (label N n d D : ℕ)
-      → stepped p (Lot label N n d D) (lotFigures K L A newest)
+  pub lot-numbers : (p : Plan) (label N n d D : ℕ) → stepped p (Lot label N n d D) (lotFigures K L A newest)
       ≡ lotFigures (creditStep p (Lot label N n d D) K) (levelStep p (Lot label N n d D) L)
       (A + acceptedOf (verdictOn p (lotFigures K L A newest) d) N D) label
   unfolding stepped continuousStep acceptedBy isLot labelOf lotFigures
@@ -51,27 +50,29 @@ follower-size least newest label N e = within-of least largestLot N (both-true (
 
 -- ---- records
 
--- of a lot by its head, and of a lot without fault
-module _ (p : Plan) (f : Figures) (q r : Record) (read : q ≡ r) where
-  pub lot-read : headOf r ≡ 1 → tried p f (askedLot p f (q .a) (q .b) (q .c) (q .d)) ≡ entered p f 0 r
-  lot-read head = rw read (sym (lot-record p f r head))
+-- a record by its head: what its entry gives, it gives. Each from facts in the code's own form: which head was read, and what was tested
+module _ (p : Plan) (f : Figures) (r : Record) (y : Entered) where
+  pub lot-entered : (head : ℕ) → head ≡ headOf r → head ≡ 1 → y ≡ tried p f (askedLot p f (r .a) (r .b) (r .c) (r .d)) → y ≡ entered p f 0 r
+  lot-entered head said lot gives = gives ∙ sym (lot-record p f r (sym said ∙ lot))
 
-  pub good-read : faultless r ≡ true → tried p f (askedLot p f (q .a) (q .b) 0 0) ≡ entered p f 0 r
+  pub good-entered : (good : Bool) → good ≡ faultless r → good ≡ true → y ≡ tried p f (askedLot p f (r .a) (r .b) 0 0) → y ≡ entered p f 0 r
   unfolding faultless
-  good-read e =
-      let lot = both-true (eqb (headOf r) 1) (eqb (r .c) 0 && eqb (r .d) 0) e in
+  good-entered good tested fits gives =
+      let lot = both-true (eqb (headOf r) 1) (eqb (r .c) 0 && eqb (r .d) 0) (sym tested ∙ fits) in
       let none = both-true (eqb (r .c) 0) (eqb (r .d) 0) (lot .1) in
-      cc (lot-read (eqb-true (headOf r) 1 (lot .0)), eqb-true (r .c) 0 (none .0), eqb-true (r .d) 0 (none .1))
+      lot-entered (headOf r) refl (eqb-true (headOf r) 1 (lot .0)) (rw (eqb-true (r .c) 0 (none .0), eqb-true (r .d) 0 (none .1)) gives)
 
--- something is wrong in another
-pub some-wrong : (r : Record) → faultless r ≡ false → headOf r ≡ 1 → (r .c ≡ 0) × (r .d ≡ 0) → ⊥
+  pub stop-entered : (head why : ℕ) → head ≡ headOf r → (head ≡ 1 → ⊥) → why ≡ whyOf r → isContinuous p ≡ false
+      → y ≡ tried p f (Stop why (r .a)) → y ≡ entered p f 0 r
+  stop-entered head why said other stop lots gives =
+      let never : isContinuous p ≡ true → ⊥ = λ on. never-both (isContinuous p) on lots in
+      gives ∙ rw stop (sym (stop-record p f r (λ e _. other (said ∙ e)) (λ _ on. absurd (never on)) (λ _ on. absurd (never on))))
+
+-- a lot's that is not without fault has something wrong
+pub some-wrong : (r : Record) (good : Bool) (head : ℕ) → good ≡ faultless r → good ≡ false → head ≡ headOf r → head ≡ 1
+    → (r .c ≡ 0) × (r .d ≡ 0) → ⊥
 unfolding faultless
-some-wrong r e head none = never-both (faultless r) (rw (eq-eqb (headOf r) 1 head, eq-eqb (r .c) 0 (none .0), eq-eqb (r .d) 0 (none .1))) e
+some-wrong r good head tested fails said lot none =
+    never-both good (rw (tested, ← said, eq-eqb head 1 lot, eq-eqb (r .c) 0 (none .0), eq-eqb (r .d) 0 (none .1))) fails
 
--- no other than a lot's or a stop's stands
-pub no-other : (p : Plan) (f : Figures) (r : Record) → isContinuous p ≡ false → (headOf r ≡ 1 → ⊥)
-    → (oneNumber r ≡ true → (headOf r ≡ 260 → ⊥) × (headOf r ≡ 516 → ⊥)) → unsoundAt f ≡ entered p f 0 r
-no-other p f r lots lot stop =
-    sym
-    (no-record p f r (λ head _. lot head) (λ one w least most head. let others = stop one in omega arith)
-    (λ _ on. absurd (never-both (isContinuous p) on lots)) (λ _ on. absurd (never-both (isContinuous p) on lots)))
+pub ruleset lot-records = (lot-entered, good-entered, stop-entered, some-wrong)

@@ -19,7 +19,7 @@ use Rattle.model.proofs.Backward.{credit-backward, level-foreign, continuous-fo
 use Rattle.model.proofs.FigureBounds.{figures-within}
 use Rattle.replaying.specs.Replaying.{recordsIn, figuresTo, Ready, Reached}
 use Rattle.replaying.proofs.Parts.{length-entries}
-use Rattle.replaying.proofs.Turns.{ready-admissible}
+use Rattle.replaying.proofs.Turns.{ready-admissible, turn-inside, turn-taken, turn-failed, turns-over}
 
 -- figures that calls could have left
 pub record Left (p : Plan) (f : Figures) : Type 0 where
@@ -74,3 +74,6 @@ module _ (p : Plan) (area : List ℕ) (f : Figures) (i to : ℕ) (ready : Ready 
         free = omega (arith, length-entries p (recordsIn area) i);
         after = ready .brought;
       }
+
+-- what a replay's loop needs of its turns
+pub ruleset turns = (turn-inside, turn-taken, turn-failed, turns-over, ready-reached)

@@ -1,6 +1,6 @@
 -- What an entry gives wherever a place is free, and which entry a record holds, by its head. Assumes nothing.
 use Prim.Native.Nat.{ℕ, _+_, _*_, _≤_, _<_}
-use mathlib.Core.Path.{_≡_, refl}
+use mathlib.Core.Path.{_≡_, refl, sym, ap, _∙_}
 use mathlib.Core.Bool.{Bool, true, false, cond, not, _&&_, _||_, or-true}
 use native.Mathlib.Omega.{arith}
 use lib.Dec.{eqb, ltb, leb}
@@ -15,11 +15,15 @@ use Rattle.model.specs.Stations.{isContinuous, within}
 use Rattle.model.specs.Figuring.{sampleAsked, verdictOn, stepped}
 use Rattle.model.specs.Calls.{firstOf, entryRefusals, isDiscontinued, isFull, sameLabel, sizeInRange, countsAgree, accepts}
 use Rattle.model.proofs.Allowed.{allowed-lot, allowed-run, allowed-block, allowed-stop}
-use Rattle.model.proofs.Booleans.{both-true}
+use Rattle.model.proofs.Booleans.{both-true, never-both}
 use Rattle.rules.specs.Refusing.{isStop}
 use Rattle.records.specs.declared.Record.{Record}
-use Rattle.replaying.specs.Replaying.{entryOf, oneNumber, wellFormed, headOf, stands, enteredIf, entered, tried, askedLot, unsoundAt}
-use Rattle.replaying.proofs.Heads.{head-is}
+use Rattle.replaying.specs.declared.Entered.{Entered}
+use Rattle.replaying.specs.Replaying.{entryOf, oneNumber, wellFormed, headOf, holdsStop, whyOf, stands, enteredIf, entered, tried, askedLot, unsoundAt}
+use Rattle.replaying.proofs.Heads.{head-is, StopForm, stop-held, stop-form}
+
+abbrev pub enteredWith : Bool → Figures → Entered
+enteredWith stood f = record { sound = stood; figures = f }
 
 -- ---- entries
 
@@ -37,8 +41,7 @@ unfolding accepts
 accepted-zero p f i e a = eqb-true (firstOf (entryRefusals p f i e)) 0 a
 
 -- the refusals of a lot by its label, size and counts
-none-given : (same size counts : Bool)
-    → eqb (cond same 10 (cond (not size) 11 (cond (not counts) 13 0))) 0 ≡ not same && size && counts
+none-given : (same size counts : Bool) → eqb (cond same 10 (cond (not size) 11 (cond (not counts) 13 0))) 0 ≡ not same && size && counts
 none-given true size counts = refl
 none-given false false counts = refl
 none-given false true false = refl
@@ -46,13 +49,11 @@ none-given false true true = refl
 
 module _ (p : Plan) (f : Figures) (running : isDiscontinued f ≡ false) where
   -- a lot is accepted by its label, its size and its counts
-  pub lot-tried : isContinuous p ≡ false → (label N d D : ℕ)
-      → tried p f (askedLot p f label N d D)
+  pub lot-tried : isContinuous p ≡ false → (label N d D : ℕ) → tried p f (askedLot p f label N d D)
       ≡ enteredIf (not (sameLabel f label) && sizeInRange p N && countsAgree (verdictOn p f d) N (sampleAsked p f N) d D)
       (stepped p (askedLot p f label N d D) f) f
   unfolding tried accepts firstOf entryRefusals isFull askedLot
-  lot-tried lots label N d D =
-      rw (lots, running, eq-eqb (sampleAsked p f N) (sampleAsked p f N) refl)
+  lot-tried lots label N d D = rw (lots, running, eq-eqb (sampleAsked p f N) (sampleAsked p f N) refl)
       (rw (none-given (sameLabel f label) (sizeInRange p N) (countsAgree (verdictOn p f d) N (sampleAsked p f N) d D)))
 
   -- and a stop, on a stream of any plan, by its why and days
@@ -95,6 +96,15 @@ module _ (p : Plan) (f : Figures) (r : Record) where
   unfolding entered stands
   entered-anywhere i free = rw (accepts-anywhere p f i (entryOf p f r) free)
 
+  -- one that fails leaves the figures
+  pub entered-fails : (stood : Bool) (g : Figures) → enteredWith stood g ≡ entered p f 0 r → stood ≡ false → enteredWith false f ≡ entered p f 0 r
+  unfolding entered
+  entered-fails stood g told fails = rw (sym (ap (λ (e : Entered). e .sound) told) ∙ fails)
+
+  -- and what a record gives, it gives where it is read
+  pub entered-read : (q : Record) → q ≡ r → (y : Entered) → y ≡ entered p f 0 q → y ≡ entered p f 0 r
+  entered-read q read y gives = rw (← read) gives
+
   formed : (e : Entry) → wellFormed r ≡ true → entryOf p f r ≡ e → entered p f 0 r ≡ tried p f e
   unfolding entered stands tried
   formed e w same = rw (w, same)
@@ -108,7 +118,7 @@ module _ (p : Plan) (f : Figures) (r : Record) where
       let spare : r .spare ≡ 0 = omega arith in
       formed _ (rw (kind, flag, spare)) (rw kind)
 
-  -- and of a run, a block and a stop, with their flag
+  -- and of a run and a block, with their flag
   module _ (kinds : r .kind < 256) (flags : r .flag < 256) (one : oneNumber r ≡ true) (w : ℕ) (small : w < 256) where
     pub run-record : headOf r ≡ 2 + w * 256 → entered p f 0 r ≡ tried p f (Run (r .a) w)
     unfolding wellFormed entryOf
@@ -122,52 +132,67 @@ module _ (p : Plan) (f : Figures) (r : Record) where
         let form = head-is r 3 w kinds flags (omega arith) small head in
         formed _ (rw (form .0, form .2) one) (rw (form .0, form .1))
 
-    pub stop-record : headOf r ≡ 4 + w * 256 → entered p f 0 r ≡ tried p f (Stop w (r .a))
-    unfolding wellFormed entryOf
-    stop-record head =
-        let form = head-is r 4 w kinds flags (omega arith) small head in
-        formed _ (rw (form .0, form .2) one) (rw (form .0, form .1))
+  -- a record that holds a stop; and one that fails, as a stop of why 0 does by 15
+  held : StopForm r → entered p f 0 r ≡ tried p f (Stop (r .flag) (r .a))
+  unfolding wellFormed entryOf
+  held form = formed _ (rw (form .kind, form .spare) (form .one)) (rw (form .kind))
 
-  -- no other record stands: a lot's on a stream for lots, a run's or block's on a continuous one, and a stop's
+  pub no-stop : (days : ℕ) → tried p f (Stop 0 days) ≡ unsoundAt f
+  unfolding tried unsoundAt accepts firstOf entryRefusals isFull within
+  no-stop days = go (isDiscontinued f)
+    where
+      go : (b : Bool) → enteredIf (eqb (cond b 8 15) 0) (stepped p (Stop 0 days) f) f ≡ unsoundAt f
+      go true = refl
+      go false = refl
+
+  failed : wellFormed r && accepts p f 0 (entryOf p f r) ≡ false → entered p f 0 r ≡ tried p f (Stop 0 (r .a))
+  unfolding entered stands unsoundAt
+  failed e = rw e (sym (no-stop (r .a)))
+
+  -- one that is no lot's on a stream for lots, nor a run's or block's that a continuous stream accepts, stands where it holds a stop
   module _ (lot : headOf r ≡ 1 → isContinuous p ≡ false → ⊥)
-      (stop : oneNumber r ≡ true → (w : ℕ) → 1 ≤ w → w ≤ 2 → headOf r ≡ 4 + w * 256 → ⊥)
-      (run : oneNumber r ≡ true → isContinuous p ≡ true → (w : ℕ) → w ≤ 1 → headOf r ≡ 2 + w * 256 → ⊥)
-      (block : oneNumber r ≡ true → isContinuous p ≡ true → (w : ℕ) → w ≤ 1 → headOf r ≡ 3 + w * 256 → ⊥) where
-    stood : wellFormed r ≡ true → accepts p f 0 (entryOf p f r) ≡ true → ⊥
+      (run : oneNumber r ≡ true → isContinuous p ≡ true → (w : ℕ) → w ≤ 1 → headOf r ≡ 2 + w * 256 → accepts p f 0 (Run (r .a) w) ≡ false)
+      (block : oneNumber r ≡ true → isContinuous p ≡ true → (w : ℕ) → w ≤ 1 → headOf r ≡ 3 + w * 256 → accepts p f 0 (Block (r .a) w) ≡ false) where
+    stop-alone : wellFormed r ≡ true → accepts p f 0 (entryOf p f r) ≡ true → holdsStop r ≡ true
     unfolding wellFormed headOf entryOf askedLot
-    stood w a = go (eqb (r .kind) 1) (eqb (r .kind) 2) (eqb (r .kind) 3) refl refl refl (both-true (eqb (r .spare) 0) _ w .1)
+    stop-alone w a = go (eqb (r .kind) 1) (eqb (r .kind) 2) (eqb (r .kind) 3) refl refl refl (both-true (eqb (r .spare) 0) _ w .1)
       where
+        taken : (e : Entry) → entryOf p f r ≡ e → accepts p f 0 e ≡ true
+        taken e same = rw same at a
+
         given : (e : Entry) → entryOf p f r ≡ e → firstOf (entryRefusals p f 0 e) ≡ 0
-        given e same = accepted-zero p f 0 e (rw same at a)
+        given e same = accepted-zero p f 0 e (taken e same)
 
         spare : r .spare ≡ 0
         spare = eqb-true (r .spare) 0 (both-true (eqb (r .spare) 0) _ w .0)
 
         go : (k1 k2 k3 : Bool) → eqb (r .kind) 1 ≡ k1 → eqb (r .kind) 2 ≡ k2 → eqb (r .kind) 3 ≡ k3
-            → cond k1 (eqb (r .flag) 0) ((k2 || k3 || eqb (r .kind) 4) && oneNumber r) ≡ true → ⊥
+            → cond k1 (eqb (r .flag) 0) ((k2 || k3 || eqb (r .kind) 4) && oneNumber r) ≡ true → holdsStop r ≡ true
         go true k2 k3 x y z t =
             let k = eqb-true (r .kind) 1 x in
             let flag = eqb-true (r .flag) 0 t in
-            lot (omega (arith, spare)) (allowed-lot p f 0 _ _ _ _ _ (given (askedLot p f (r .a) (r .b) (r .c) (r .d)) (rw k)) .lots)
+            absurd (lot (omega (arith, spare)) (allowed-lot p f 0 _ _ _ _ _ (given (askedLot p f (r .a) (r .b) (r .c) (r .d)) (rw k)) .lots))
         go false true k3 x y z t =
             let k = eqb-true (r .kind) 2 y in
             let allowed = allowed-run p f 0 _ _ (given (Run (r .a) (r .flag)) (rw k)) in
-            run t (allowed .continuous) (r .flag) (allowed .wrong) (omega (arith, spare))
+            absurd (never-both _ (taken (Run (r .a) (r .flag)) (rw k)) (run t (allowed .continuous) (r .flag) (allowed .wrong) (omega (arith, spare))))
         go false false true x y z t =
             let k = eqb-true (r .kind) 3 z in
             let allowed = allowed-block p f 0 _ _ (given (Block (r .a) (r .flag)) (rw k)) in
-            block t (allowed .continuous) (r .flag) (allowed .wrong) (omega (arith, spare))
+            absurd (never-both _ (taken (Block (r .a) (r .flag)) (rw k)) (block t (allowed .continuous) (r .flag) (allowed .wrong) (omega (arith, spare))))
         go false false false x y z t =
-            let k = eqb-true (r .kind) 4 (both-true (eqb (r .kind) 4) (oneNumber r) t .0) in
+            let both = both-true (eqb (r .kind) 4) (oneNumber r) t in
+            let k = eqb-true (r .kind) 4 (both .0) in
             let allowed = allowed-stop p f 0 _ _ (given (Stop (r .flag) (r .a)) (rw k)) in
-            stop (both-true (eqb (r .kind) 4) (oneNumber r) t .1) (r .flag) (allowed .first) (allowed .last) (omega (arith, spare))
+            stop-held r (record { kind = k; first = allowed .first; last = allowed .last; spare = spare; one = both .1 })
 
-    pub no-record : entered p f 0 r ≡ unsoundAt f
-    unfolding entered stands unsoundAt
-    no-record = go (wellFormed r) (accepts p f 0 (entryOf p f r)) refl refl
+    pub stop-record : entered p f 0 r ≡ tried p f (Stop (whyOf r) (r .a))
+    unfolding whyOf
+    stop-record = go (holdsStop r) (wellFormed r) (accepts p f 0 (entryOf p f r)) refl refl refl
       where
-        go : (w a : Bool) → wellFormed r ≡ w → accepts p f 0 (entryOf p f r) ≡ a
-            → enteredIf (w && a) (stepped p (entryOf p f r) f) f ≡ unsoundAt f
-        go true true w a = absurd (stood w a)
-        go true false w a = refl
-        go false a w e = refl
+        go : (b w a : Bool) → holdsStop r ≡ b → wellFormed r ≡ w → accepts p f 0 (entryOf p f r) ≡ a
+            → entered p f 0 r ≡ tried p f (Stop (cond b (r .flag) 0) (r .a))
+        go true w a s x y = held (stop-form r s)
+        go false true true s x y = absurd (never-both (holdsStop r) (stop-alone x y) s)
+        go false true false s x y = failed (rw (x, y))
+        go false false a s x y = failed (rw x)

@@ -1,11 +1,13 @@
 -- One turn of a replay: `Ready` of the records that are left is what its loop keeps. Assumes nothing.
 use Prim.Native.Nat.{ℕ, suc, _+_, _*_, _≤_, _<_}
 use mathlib.Core.Path.{_≡_, refl, sym, ap, _∙_}
-use mathlib.Core.Bool.{true, false}
+use mathlib.Core.Bool.{Bool, true, false, not}
 use mathlib.Core.List.{List}
 use native.Mathlib.Numerals.{add-one}
 use native.Mathlib.Omega.{arith}
 use lib.Dec.{T}
+use lib.ListN.{length}
+use borrow.Author.Tests.{not-true, not-false}
 use Rattle.little.specs.Little.{part, AreBytes}
 use Rattle.model.specs.declared.Plan.{Plan}
 use Rattle.model.specs.declared.Figures.{Figures}
@@ -19,31 +21,36 @@ use Rattle.records.proofs.Laws.{record-at}
 use Rattle.replaying.specs.declared.Entered.{Entered}
 use Rattle.replaying.specs.Replaying.{entered, recordsIn, figuresTo, standTo, Ready, Replayed}
 use Rattle.replaying.proofs.Parts.{figures-next, stand-fails, stand-admissible}
-use Rattle.replaying.proofs.Tried.{entered-anywhere}
+use Rattle.replaying.proofs.Tried.{enteredWith, entered-anywhere}
 
 module _ (p : Plan) (area : List ℕ) (f : Figures) (i to : ℕ) (ready : Ready p area f i to) where
   -- calls could have left the records before
   pub ready-admissible : AreBytes area → T (admissible p (entriesIn p (recordsIn area) i))
   ready-admissible bytes = stand-admissible p area i (ready .whole) bytes (omega arith) (ready .stood)
 
-  -- the record of the turn, read at its offset
-  module _ (more : i < to) (step : Entered) (read : step ≡ entered p f 0 (recordIn (part (headerLength + recordLength * i) recordLength area))) where
-    made : step ≡ entered p f i (recordIn (recordAt area i))
+  pub turn-inside : i < to → headerLength + recordLength * i + recordLength ≤ length area
+  turn-inside more = omega (arith, ready .whole)
+
+  -- the record of the turn, read at its offset: whether it stood, and the figures after it
+  module _ (more : i < to) (stood : Bool) (g : Figures)
+      (read : enteredWith stood g ≡ entered p f 0 (recordIn (part (headerLength + recordLength * i) recordLength area))) where
+    made : enteredWith stood g ≡ entered p f i (recordIn (recordAt area i))
     made = read ∙ rw (record-at area i (omega (arith, ready .room))) (sym (entered-anywhere p f _ i (omega (arith, ready .room))))
 
-    next-stands : step .sound ≡ standTo p area (suc i)
+    next-stands : stood ≡ standTo p area (suc i)
     unfolding entered standTo
     next-stands = ap (λ (e : Entered). e .sound) made ∙ rw (ready .stood, ← ready .brought)
 
-    next-figures : step .sound ≡ true → step .figures ≡ figuresTo p area (suc i)
+    next-figures : stood ≡ true → g ≡ figuresTo p area (suc i)
     unfolding entered
     next-figures s =
         ap (λ (e : Entered). e .figures) made
         ∙ rw (sym (ap (λ (e : Entered). e .sound) made) ∙ s, figures-next p area i, ← ready .brought)
 
     -- the record stands: on to the next
-    pub turn-taken : step .sound ≡ true → Ready p area (step .figures) (i + 1) to
-    turn-taken s =
+    pub turn-taken : not stood ≡ false → Ready p area g (i + 1) to
+    turn-taken n =
+        let s = not-false stood n in
         record {
           whole = ready .whole;
           valid = ready .valid;
@@ -54,18 +61,18 @@ module _ (p : Plan) (area : List ℕ) (f : Figures) (i to : ℕ) (ready : Ready 
         }
 
     -- it does not: nor do all, and of the figures nothing is said
-    pub turn-failed : step .sound ≡ false → (any : Figures) → Replayed p area to (record { sound = false; figures = any })
-    turn-failed s any =
+    pub turn-failed : not stood ≡ true → (any : Figures) → Replayed p area to (enteredWith false any)
+    turn-failed n any =
         record {
-          allStand = sym (stand-fails p area (suc i) to (omega arith) (sym next-stands ∙ s));
+          allStand = sym (stand-fails p area (suc i) to (omega arith) (sym next-stands ∙ not-true stood n));
           figuresAfter = λ t. absurd (never-both false t refl);
         }
 
   -- none is left
-  pub turns-over : to ≤ i → Replayed p area to (record { sound = true; figures = f })
-  turns-over over =
+  pub turns-over : to ≤ i → (g : Figures) → g ≡ f → Replayed p area to (enteredWith true g)
+  turns-over over g same =
       let all : i ≡ to = omega arith in
-      record { allStand = sym (rw all at (ready .stood)); figuresAfter = λ _. rw all at (ready .brought) }
+      record { allStand = sym (rw all at (ready .stood)); figuresAfter = λ _. same ∙ rw all at (ready .brought) }
 
 -- before the first record
 pub stand-none : (p : Plan) (area : List ℕ) → standTo p area 0 ≡ true

@@ -12,7 +12,7 @@ use Rattle.model.specs.declared.Entry.the-variants.{Lot, Run, Block, Stop}
 use Rattle.model.specs.declared.Figures.{Figures}
 use Rattle.model.specs.Calls.{accepts, admissible}
 use Rattle.model.specs.Sizes.{recordLength, headerLength, mostRecords, areaLength}
-use Rattle.model.specs.Stations.{validPlan}
+use Rattle.model.specs.Stations.{validPlan, within}
 use Rattle.model.specs.Figuring.{sampleAsked, stepped, figuresOf}
 use Rattle.model.specs.Area.{entriesIn}
 use Rattle.records.specs.declared.Record.{Record}
@@ -44,6 +44,14 @@ headOf r = r .kind + r .flag * 256 + r .spare * 65536
 -- a lot's record with nothing wrong in the sample, nor in all that was heard
 unfoldable pub faultless : Record → Bool
 faultless r = eqb (headOf r) 1 && (eqb (r .c) 0 && eqb (r .d) 0)
+
+-- a stop's record, paper 01, "The store": kind 4, its why as the flag, two zero bytes, its days, and zeros; the why is 1 or 2
+unfoldable pub holdsStop : Record → Bool
+holdsStop r = eqb (r .kind) 4 && within 1 2 (r .flag) && eqb (r .spare) 0 && oneNumber r
+
+-- the why of the stop that a record holds, 0 where it holds none
+unfoldable pub whyOf : Record → ℕ
+whyOf r = cond (holdsStop r) (r .flag) 0
 
 -- a record that some accepted call could have left as the i-th, after figures f
 unfoldable pub stands : Plan → Figures → ℕ → Record → Bool

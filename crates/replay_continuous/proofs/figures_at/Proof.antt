@@ -1,12 +1,10 @@
+-- Field by field.
 use borrow.Author.Needs.{needs}
 use Rattle.model.specs.Figuring.{noLevel}
 use Rattle.replay_continuous.specs.Places.{figuresIn}
 use Rattle.replay_continuous.proofs.figures_at.Statement.{statement}
 use Rattle.replay_continuous.proofs.figures_at.Tie as tie
 
-returns : tie.Need-returns
-unfolding figuresIn noLevel
-returns c = rw (c .state-of .ensures)
-
 pub figures-at-spec : {M : Type 1} → statement M
-figures-at-spec = tie.close (tie.spec (λ c κs. search needs) returns)
+unfolding figuresIn noLevel
+figures-at-spec = tie.close (tie.spec (λ c κs. search needs) (λ c. cc))

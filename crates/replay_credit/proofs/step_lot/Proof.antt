@@ -5,11 +5,8 @@ use borrow.Author.Needs.{needs}
 use Rattle.replay_credit.proofs.step_lot.Statement.{statement}
 use Rattle.replay_credit.proofs.step_lot.Tie as tie
 
-returns : tie.Need-returns
-returns c = rw (c .before .before .if1 .taken, c .before .if2 .taken) (c .step-good-lot .ensures)
-
-step-wrong-lot-requires : tie.Need-step-wrong-lot-requires
-step-wrong-lot-requires c κs = (c .before .pre, λ none. ⊎-elim (λ w. omega arith) (λ w. omega arith) (c .if1 .came))
-
 pub step-lot-spec : {M : Type 1} → statement M
-step-lot-spec = tie.close (tie.spec (λ c κs. search needs) returns step-wrong-lot-requires (λ c. search needs))
+step-lot-spec =
+    tie.close
+    (tie.spec (λ c κs. search needs) (λ c. cc) (λ c κs. (c .before .pre, λ none. ⊎-elim (λ w. omega arith) (λ w. omega arith) (c .if1 .came)))
+    (λ c. search needs))
