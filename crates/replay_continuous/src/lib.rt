@@ -185,7 +185,7 @@ fn next(area: &[u8], plan: Plan, place: Place, at: usize) -> Outcome
 
 // What a record does to the place, and whether it could stand: the step of the entry that it holds. Speed: the phase is looked at first,
 // so that a block's head is not compared with a run's; and whether a wrong run or block fits before its head, so that the compiler keeps
-// this order, in which a right one costs one comparison of heads: else a long stream in sampling takes 1.20 times as long. One that does
+// this order, in which a right one costs one comparison of heads: else a long stream in sampling takes 1.25 times as long. One that does
 // not fit is no stop either.
 fn take(plan: Plan, place: Place, read: Record) -> Step
     requires { ⌜ OnContinuous plan place ⌝ }
