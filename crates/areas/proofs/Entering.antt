@@ -21,8 +21,8 @@ use Rattle.model.specs.Calls.{firstOf, entryRefusals, isFull, accepts, refused,
 use Rattle.model.specs.Area.{recordOf, onArea}
 use Rattle.model.proofs.Allowed.{passed}
 use Rattle.model.proofs.Booleans.{neither-of}
-use Rattle.rules.specs.Refusing.{earlier, lastOf, UpToLast}
-use Rattle.rules.proofs.UpToLast.{first-earlier, last-decides}
+use Rattle.rules.specs.Refusing.{earlier, UpToLast}
+use Rattle.rules.proofs.UpToLast.{lastOf, first-earlier, last-decides}
 use Rattle.replaying.specs.declared.Entered.{Entered}
 use Rattle.replaying.specs.Replaying.{Reached, tried, askedLot}
 use Rattle.replaying.proofs.Tried.{accepts-anywhere}
@@ -42,17 +42,17 @@ pub record LeftLot (p : Plan) (f : Figures) (count N n : ℕ) : Type 0 where
   pub room : count < mostRecords
   pub sample : n ≡ sampleAsked p f N
 
-pub record LeftContinuous (p : Plan) (count w : ℕ) : Type 0 where
+pub record LeftRunOrBlock (p : Plan) (count w : ℕ) : Type 0 where
   pub kind : p .kind ≡ 3
   pub room : count < mostRecords
   pub wrong : w ≤ 1
 
 -- runs and blocks, and their flag
-abbrev pub isHeard : Entry → Bool
-isHeard (Lot label N n d D) = false
-isHeard (Run h w) = true
-isHeard (Block q w) = true
-isHeard (Stop why days) = false
+abbrev pub isRunOrBlock : Entry → Bool
+isRunOrBlock (Lot label N n d D) = false
+isRunOrBlock (Run h w) = true
+isRunOrBlock (Block q w) = true
+isRunOrBlock (Stop why days) = false
 
 abbrev pub wrongIn : Entry → ℕ
 wrongIn (Lot label N n d D) = 0
@@ -76,7 +76,7 @@ module _ (p : Plan) (f : Figures) (count : ℕ) where
         sample = eqb-true n (sampleAsked p f N) (not-false _ (twelve .0));
       }
 
-  left-run : (h w : ℕ) → firstOf (earlier (entryRefusals p f count (Run h w))) ≡ 0 → LeftContinuous p count w
+  left-run : (h w : ℕ) → firstOf (earlier (entryRefusals p f count (Run h w))) ≡ 0 → LeftRunOrBlock p count w
   unfolding earlier entryRefusals isContinuous
   left-run h w e =
       let seven = passed 7 _ _ (omega arith) e in
@@ -89,7 +89,7 @@ module _ (p : Plan) (f : Figures) (count : ℕ) where
         wrong = ltb-false 1 w (neither-of (ltb longestRun h) (ltb 1 w) (range .0) .1);
       }
 
-  left-block : (q w : ℕ) → firstOf (earlier (entryRefusals p f count (Block q w))) ≡ 0 → LeftContinuous p count w
+  left-block : (q w : ℕ) → firstOf (earlier (entryRefusals p f count (Block q w))) ≡ 0 → LeftRunOrBlock p count w
   unfolding earlier entryRefusals isContinuous
   left-block q w e =
       let seven = passed 7 _ _ (omega arith) e in
@@ -101,12 +101,12 @@ module _ (p : Plan) (f : Figures) (count : ℕ) where
         wrong = ltb-false 1 w (neither-of (not (within 1 (p .b) q)) (ltb 1 w) (fifteen .0) .1);
       }
 
-  pub left-continuous : (e : Entry) → T (isHeard e) → firstOf (earlier (entryRefusals p f count e)) ≡ 0
-      → LeftContinuous p count (wrongIn e)
-  left-continuous (Lot label N n d D) of e = absurd of
-  left-continuous (Run h w) of e = left-run h w e
-  left-continuous (Block q w) of e = left-block q w e
-  left-continuous (Stop why days) of e = absurd of
+  pub left-run-or-block : (e : Entry) → T (isRunOrBlock e) → firstOf (earlier (entryRefusals p f count e)) ≡ 0
+      → LeftRunOrBlock p count (wrongIn e)
+  left-run-or-block (Lot label N n d D) of e = absurd of
+  left-run-or-block (Run h w) of e = left-run h w e
+  left-run-or-block (Block q w) of e = left-block q w e
+  left-run-or-block (Stop why days) of e = absurd of
 
   pub left-stop : (why days : ℕ) → firstOf (earlier (entryRefusals p f count (Stop why days))) ≡ 0 → count < mostRecords
   unfolding earlier entryRefusals

@@ -101,13 +101,6 @@ module _ (p : Plan) (e : Entry) (es : List Entry) (room : length es < mostRecord
       rw (area-before, area-after, add-one)
       (rewritten-area p _ _ _ (recordsOf es) (zeros recordLength) (recordOf e) _ (length-records es) refl (length-record e) _ _)
 
-  -- its record alone
-  pub recorded-area : written (headerLength + recordLength * length es) (recordOf e) (areaOf (opened p es))
-      ≡ planBytes p (length es) ++ (figureBytes (figuresOf p es) ++ (recordsOf es ++ (recordOf e ++ unused (suc (length es)))))
-  recorded-area =
-      rw area-before
-      (recorded p _ _ _ (recordsOf es) (zeros recordLength) (recordOf e) _ (length-records es) refl (length-record e))
-
   -- the newest entry less
   pub taken-area : rewritten (length es) (zeros recordLength) (length es) (figuresOf p es) (areaOf (opened p (e ∷ es)))
       ≡ areaOf (opened p es)

@@ -26,6 +26,7 @@ use Rattle.model.specs.Area.{zeros}
 use Rattle.model.specs.Store.{areaAt, onStore}
 use Rattle.model.specs.Claims.{on}
 use Rattle.model.proofs.Booleans.{of-holds}
+use Rattle.rules.proofs.Counts.{credit-within}
 use Rattle.records.specs.Records.{recordIn, recordAt}
 use Rattle.replay.specs.declared.Standing.{Standing}
 use Rattle.areas.specs.Written.{openedWith, rewritten}
@@ -138,7 +139,7 @@ module _ (store : List ℕ) (stream : ℕ) (s : Standing) (seen : s ≡ lookedAt
   seen-count = read-count (opened .at)
 
   pub seen-credit : s .figures .credit .0 ≤ largestCredit
-  seen-credit = omega (arith, seen-count, seen-figures)
+  seen-credit = credit-within _ _ seen-figures seen-count
 
   pub count-fits : Fits w32 (s .count)
   count-fits = record { fits = omega (arith, seen-count) }

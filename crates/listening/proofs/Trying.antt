@@ -26,7 +26,8 @@ use Rattle.model.specs.Area.{recordBytes, recordOf}
 use Rattle.model.specs.Store.{areaAt, onStore}
 use Rattle.model.specs.Claims.{on}
 use Rattle.model.proofs.Allowed.{AllowedBlock, allowed-lot, allowed-block, allowed-stop, plan-range}
-use Rattle.rules.specs.Refusing.{lastOf, UpToLast, LotUpToLast, ContinuousUpToLast, StopUpToLast}
+use Rattle.rules.specs.Refusing.{UpToLast, LotUpToLast, RunOrBlockUpToLast, StopUpToLast}
+use Rattle.rules.proofs.UpToLast.{lastOf}
 use Rattle.rules.proofs.Counts.{all-at-most}
 use Rattle.replaying.specs.declared.Entered.{Entered}
 use Rattle.replaying.specs.Replaying.{Reached, tried, askedLot}
@@ -36,11 +37,11 @@ use Rattle.areas.proofs.OnReading.{read-plan}
 use Rattle.areas.proofs.Outcomes.{lot-answer, run-answer, block-answer, stop-answer}
 use Rattle.areas.proofs.Entering.{
   LeftLot,
-  LeftContinuous,
-  isHeard,
+  LeftRunOrBlock,
+  isRunOrBlock,
   wrongIn,
   left-lot,
-  left-continuous,
+  left-run-or-block,
   left-stop,
   lot-asked,
   reached-here,
@@ -149,44 +150,44 @@ module _ (store : List ℕ) (stream : ℕ) (s : Standing) (label N n r : ℕ) (s
         unfolding recordOf
         lot-entered a then given = put lot-tried stands (lot-answer (opened lot-tried stands .at) _ _ _ _ _ (after lot-tried stands) given)
 
-pub lot-heard : (store : List ℕ) (stream : ℕ) (s : Standing) (label N n d D r : ℕ) (x : Entered)
+pub lot-counted : (store : List ℕ) (stream : ℕ) (s : Standing) (label N n d D r : ℕ) (x : Entered)
     → x ≡ tried (s .plan) (s .figures) (askedLot (s .plan) (s .figures) label N d D) → not (x .sound) ≡ false
     → LotUpToLast (s .plan) (s .figures) (s .count) label N n r → r ≡ 0 → s ≡ lookedAt 0 stream store → s .refusal ≡ 0 → D ≤ N
-lot-heard store stream s label N n d D r x made stands said none seen known =
+lot-counted store stream s label N n d D r x made stands said none seen known =
     let t = lot-tried store stream s label N n r seen known said none d D x made in
     all-at-most _ _ _ _ _ _ _ _ (allowed-lot _ _ _ _ _ _ _ _ (none-given t stands))
 
 -- ---- a run or a block
 module _ (store : List ℕ) (stream : ℕ) (s : Standing) (e : Entry) (r : ℕ) (seen : s ≡ lookedAt 0 stream store) (known : s .refusal ≡ 0)
-    (said : ContinuousUpToLast (s .plan) (s .count) e r) where
-  pub heard-told : Told store stream s e r
-  unfolding ContinuousUpToLast
-  heard-told = record { opened = opened-in store stream 0 s seen known; said = said (s .figures) }
+    (said : RunOrBlockUpToLast (s .plan) (s .count) e r) where
+  pub continuous-told : Told store stream s e r
+  unfolding RunOrBlockUpToLast
+  continuous-told = record { opened = opened-in store stream 0 s seen known; said = said (s .figures) }
 
-  module _ (of : T (isHeard e)) (none : r ≡ 0) where
-    heard-left : LeftContinuous (s .plan) (s .count) (wrongIn e)
-    heard-left = left-continuous _ _ _ e of (last-left (heard-told .opened .at) _ (heard-told .said) none)
+  module _ (of : T (isRunOrBlock e)) (none : r ≡ 0) where
+    continuous-left : LeftRunOrBlock (s .plan) (s .count) (wrongIn e)
+    continuous-left = left-run-or-block _ _ _ e of (last-left (continuous-told .opened .at) _ (continuous-told .said) none)
 
-    pub heard-reached : Reached (s .plan) (s .figures)
-    heard-reached = reached-here (heard-told .opened .at) (heard-left .room)
+    pub continuous-reached : Reached (s .plan) (s .figures)
+    continuous-reached = reached-here (continuous-told .opened .at) (continuous-left .room)
 
-    pub heard-kind : s .plan .kind ≡ 3
-    heard-kind = heard-left .kind
+    pub continuous-kind : s .plan .kind ≡ 3
+    continuous-kind = continuous-left .kind
 
     module _ (x : Entered) (made : x ≡ tried (s .plan) (s .figures) e) where
-      pub heard-tried : Tried store stream s e x
-      heard-tried = record { r = r; told = heard-told; none = none; room = heard-left .room; made = made }
+      pub continuous-tried : Tried store stream s e x
+      continuous-tried = record { r = r; told = continuous-told; none = none; room = continuous-left .room; made = made }
 
-      pub heard-put : not (x .sound) ≡ false → MayWrite store stream (s .count) (x .figures)
-      heard-put = may-put heard-tried
+      pub continuous-put : not (x .sound) ≡ false → MayWrite store stream (s .count) (x .figures)
+      continuous-put = may-put continuous-tried
 
 pub flag-fits : (w : ℕ) → w ≤ 1 → Fits w8 w
 flag-fits w few = record { fits = omega arith }
 
 module _ (store : List ℕ) (stream : ℕ) (s : Standing) (h w r : ℕ) (seen : s ≡ lookedAt 0 stream store) (known : s .refusal ≡ 0)
-    (said : ContinuousUpToLast (s .plan) (s .count) (Run h w) r) (none : r ≡ 0) where
+    (said : RunOrBlockUpToLast (s .plan) (s .count) (Run h w) r) (none : r ≡ 0) where
   pub run-wrong : w ≤ 1
-  run-wrong = heard-left store stream s (Run h w) r seen known said tt none .wrong
+  run-wrong = continuous-left store stream s (Run h w) r seen known said tt none .wrong
 
   pub run-entered : (x : Entered) (a : Answer) (then : List ℕ) → x ≡ tried (s .plan) (s .figures) (Run h w) → not (x .sound) ≡ false
       → a ≡ gives h (x .figures .continuous .phase) 0
@@ -194,17 +195,17 @@ module _ (store : List ℕ) (stream : ℕ) (s : Standing) (h w r : ℕ) (seen : 
       → keeps a then ≡ onStore store (on stream (Enter (Run h w)))
   unfolding recordOf
   run-entered x a then made stands given =
-      let t = heard-tried store stream s (Run h w) r seen known said tt none x made in
+      let t = continuous-tried store stream s (Run h w) r seen known said tt none x made in
       put t stands (run-answer (opened t stands .at) h w (after t stands) given)
 
 module _ (store : List ℕ) (stream : ℕ) (s : Standing) (q w r : ℕ) (seen : s ≡ lookedAt 0 stream store) (known : s .refusal ≡ 0)
-    (said : ContinuousUpToLast (s .plan) (s .count) (Block q w) r) (none : r ≡ 0) where
+    (said : RunOrBlockUpToLast (s .plan) (s .count) (Block q w) r) (none : r ≡ 0) where
   pub block-wrong : w ≤ 1
-  block-wrong = heard-left store stream s (Block q w) r seen known said tt none .wrong
+  block-wrong = continuous-left store stream s (Block q w) r seen known said tt none .wrong
 
   module _ (x : Entered) (made : x ≡ tried (s .plan) (s .figures) (Block q w)) (stands : not (x .sound) ≡ false) where
     block-tried : Tried store stream s (Block q w) x
-    block-tried = heard-tried store stream s (Block q w) r seen known said tt none x made
+    block-tried = continuous-tried store stream s (Block q w) r seen known said tt none x made
 
     block-allowed : AllowedBlock (s .plan) (s .figures) (s .count) q w
     block-allowed = allowed-block _ _ _ q w (none-given block-tried stands)
@@ -257,14 +258,14 @@ module _ (store : List ℕ) (stream : ℕ) (s : Standing) (r : ℕ) (seen : s �
         unfolding recordOf
         stop-entered a then given = put stop-tried stands (stop-answer (opened stop-tried stands .at) why days given)
 
-pub ruleset entered = (shut-calls, first-given, last-given)
+pub ruleset entering = (shut-calls, first-given, last-given)
 
-pub ruleset lots = (entered, seen-plan, seen-figures, seen-count, lot-told, lot-tried, lot-reached, lot-kind, lot-heard, lot-put, lot-entered)
+pub ruleset lots = (entering, seen-plan, seen-figures, seen-count, lot-told, lot-tried, lot-reached, lot-kind, lot-put, lot-entered)
 
-pub ruleset heard = (entered, tt, heard-told, heard-tried, heard-reached, heard-kind, heard-put, flag-fits)
+pub ruleset continuous = (entering, tt, continuous-told, continuous-tried, continuous-reached, continuous-kind, continuous-put, flag-fits)
 
-pub ruleset runs = (heard, run-wrong, run-entered)
+pub ruleset runs = (continuous, run-wrong, run-entered)
 
-pub ruleset blocks = (heard, block-wrong, block-from, block-to, block-interval, block-entered)
+pub ruleset blocks = (continuous, block-wrong, block-from, block-to, block-interval, block-entered)
 
-pub ruleset stops = (entered, stop-told, stop-tried, stop-reached, stop-why, stop-put, stop-entered)
+pub ruleset stops = (entering, stop-told, stop-tried, stop-reached, stop-why, stop-put, stop-entered)

@@ -1,5 +1,5 @@
 -- What the calls' functions hand to one another: Open's arguments, the refusals before the area is looked at, what a call sees of a
--- stream, and an answer in two words. Assumes nothing.
+-- stream, what a write asks, and an answer in two words. Assumes nothing.
 use Prim.Native.Nat.{ℕ, _<_, _%_, _/_}
 use mathlib.Core.Path.{_≡_}
 use mathlib.Core.Bool.{cond, not}
@@ -31,8 +31,8 @@ lookedAt newest stream store =
     cond (eqb (storeRefusal (length store) stream) 0) (standingOf newest (reading (areaAt stream store)))
     (nothingStands (storeRefusal (length store) stream))
 
--- what a write in a stream's area asks: the store is whole, the stream is one of its own, there is a record with that number, and the
--- level figures are bytes
+-- what a write in a stream's area asks: the store is whole, the stream is one of its own, an area has a place for a record with that
+-- number, and the level figures are bytes
 pub record MayWrite (store : List ℕ) (stream i : ℕ) (f : Figures) : Type 0 where
   pub whole : length store ≡ storeLength
   pub known : stream < streams

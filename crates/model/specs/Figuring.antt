@@ -36,17 +36,6 @@ withLevel level =
       newest = noLabel;
     }
 
--- the figures with another continuous state, and so many more accepted
-abbrev pub withContinuous : Figures → Continuous → ℕ → Figures
-withContinuous f continuous accepted =
-    record {
-      newest = f .newest;
-      accepted = f .accepted + accepted;
-      continuous = continuous;
-      credit = f .credit;
-      level = f .level;
-    }
-
 -- the figures when a stream is opened; figures foreign to the plan are zero
 unfoldable pub started : Plan → Figures
 started p = withLevel (cond (isLevel p) levelStart noLevel)

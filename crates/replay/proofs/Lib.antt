@@ -1,2 +1,2 @@
--- Laws of what an area says, and of figures that are lent.
+-- Laws of what an area says.
 pub mod Readings

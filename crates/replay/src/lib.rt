@@ -117,8 +117,7 @@ fn read_unopened(area: &[u8]) -> Standing
 }
 
 // What an area says whose header has a valid plan and a count that fits. The records are replayed once: those before the newest, then
-// the newest. Behind them it is looked at in between: what a call before wrote there is then no longer on its way to memory, and the
-// figures, which the replay hands over in memory, have arrived when they are compared.
+// the newest.
 fn read_records(area: &[u8], plan: Plan, count: usize, newest: usize) -> Standing
     requires { ⌜ Headed (now area) plan count ⌝ }
     ensures { λ r. ⌜ r ≡ standingOf newest (reading (now (area .entry))) ⌝ }

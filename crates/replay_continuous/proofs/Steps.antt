@@ -36,8 +36,8 @@ use Rattle.replay_continuous.specs.Places.{OnContinuous, Within, Steps}
 use Rattle.replay_continuous.proofs.Phases.{continuous, Placed, reached-placed, ready-placed, stepped-placed}
 use Rattle.replay_continuous.proofs.Accepting.{no-run, no-block, run-accepts, block-accepts}
 
-abbrev pub figuresAt : Plan → Place → Figures
-figuresAt p s = figuresIn (p .a) s
+abbrev pub figuresHere : Plan → Place → Figures
+figuresHere p s = figuresIn (p .a) s
 
 flag-test : (wrong : Bool) → eqb (flagOf wrong) 1 ≡ wrong
 flag-test true = refl
@@ -52,10 +52,10 @@ flag-back w most = go (eqb w 1) refl
 
 -- a step that is what an entry, and what a record, gives at a place
 abbrev pub Gives : Plan → Place → Step → Entry → Type 0
-Gives p s x e = Steps p s x (tried p (figuresAt p s) e)
+Gives p s x e = Steps p s x (tried p (figuresHere p s) e)
 
 abbrev pub Enters : Plan → Place → Step → Record → Type 0
-Enters p s x r = Steps p s x (entered p (figuresAt p s) 0 r)
+Enters p s x r = Steps p s x (entered p (figuresHere p s) 0 r)
 
 -- ---- a step, told in figures
 module _ (clearance : ℕ) (f : Figures) (x : Step) (y : Entered) (gives : enteredAs clearance f x ≡ y) where
@@ -81,14 +81,14 @@ module _ (clearance : ℕ) (x : Step) (s : Place) (stands : x ≡ Stands s) wher
 -- ---- figures, and the place that they tell of
 module _ (p : Plan) (f : Figures) (kind : p .kind ≡ 3) (s : Place) (from : s ≡ placeFrom (p .a) f) where
   module _ (area : List ℕ) (i to : ℕ) (ready : Ready p area f i to) (bytes : AreBytes area) where
-    pub start-ready : Ready p area (figuresAt p s) i to
+    pub start-ready : Ready p area (figuresHere p s) i to
     start-ready = rw (from, ready-placed p area i to f ready bytes kind .same) ready
 
     pub start-within : s .left ≤ p .a
     start-within = rw from (ready-placed p area i to f ready bytes kind .within)
 
   module _ (reached : Reached p f) where
-    here : figuresAt p s ≡ f
+    here : figuresHere p s ≡ f
     here = rw from (reached-placed p f reached kind .same)
 
     pub call-on : OnContinuous p s
@@ -132,13 +132,13 @@ module _ (p : Plan) (s : Place) (on : OnContinuous p s) where
   unfolding figuresIn
   sum-fits n small = omega (arith, reached-within p _ (on .reached) .acceptedIn)
 
-  failed : (e : Entry) → accepts p (figuresAt p s) 0 e ≡ false → Gives p s Fails e
+  failed : (e : Entry) → accepts p (figuresHere p s) 0 e ≡ false → Gives p s Fails e
   unfolding tried enteredAs unsoundAt Within
   failed e never = record { same = rw never; within = tt }
 
   -- an entry by the code's test of whether it fits: it does not; or it does, and leaves the place of the figures after it
-  module _ (e : Entry) (fits : Bool) (state : Continuous) (n : ℕ) (same : accepts p (figuresAt p s) 0 e ≡ fits)
-      (made : stepped p e (figuresAt p s) ≡ figuresWith state n) (fit : fits ≡ true) where
+  module _ (e : Entry) (fits : Bool) (state : Continuous) (n : ℕ) (same : accepts p (figuresHere p s) 0 e ≡ fits)
+      (made : stepped p e (figuresHere p s) ≡ figuresWith state n) (fit : fits ≡ true) where
     placed : Placed p (figuresWith state n)
     placed =
         rw made at
@@ -150,10 +150,10 @@ module _ (p : Plan) (s : Place) (on : OnContinuous p s) where
 
   -- a run
   module _ (h : ℕ) (wrong : Bool) where
-    run-fits : accepts p (figuresAt p s) 0 (Run h (flagOf wrong)) ≡ fitsRun (s .left) h wrong
+    run-fits : accepts p (figuresHere p s) 0 (Run h (flagOf wrong)) ≡ fitsRun (s .left) h wrong
     run-fits = run-accepts p blocks s (on .within) (plan-of .clearanceMost) h wrong
 
-    run-made : stepped p (Run h (flagOf wrong)) (figuresAt p s)
+    run-made : stepped p (Run h (flagOf wrong)) (figuresHere p s)
         ≡ figuresWith (afterRun (p .a) h wrong (stateOf (p .a) (s .left) (s .tail))) (s .accepted + h)
     unfolding stepped creditStep levelStep continuousStep acceptedBy isLot figuresIn
     run-made = rw (flag-test wrong)
@@ -166,7 +166,7 @@ module _ (p : Plan) (s : Place) (on : OnContinuous p s) where
         pub run-room : state .count + h ≤ p .a
         unfolding figuresIn
         run-room =
-            let allowed = allowed-run p (figuresAt p s) 0 h (flagOf wrong) (accepted-zero p _ 0 _ (run-fits ∙ sym tested ∙ not-false ok fits)) in
+            let allowed = allowed-run p (figuresHere p s) 0 h (flagOf wrong) (accepted-zero p _ 0 _ (run-fits ∙ sym tested ∙ not-false ok fits)) in
             rw here (omega (arith, allowed .fits))
 
         module _ (after : Continuous) (ran : after ≡ afterRun (p .a) h wrong state) where
@@ -181,11 +181,11 @@ module _ (p : Plan) (s : Place) (on : OnContinuous p s) where
   no-block-here q w some = failed _ (no-block p blocks s some q w)
 
   module _ (q : ℕ) (wrong : Bool) (none : s .left ≡ 0) where
-    block-fits : accepts p (figuresAt p s) 0 (Block q (flagOf wrong)) ≡ within 1 (p .b) q
+    block-fits : accepts p (figuresHere p s) 0 (Block q (flagOf wrong)) ≡ within 1 (p .b) q
     block-fits = block-accepts p blocks s none q wrong
 
     block-made : (gives : Given) → gives ≡ afterBlock (p .b) q wrong (stateOf (p .a) (s .left) (s .tail))
-        → stepped p (Block q (flagOf wrong)) (figuresAt p s) ≡ figuresWith (gives .state) (s .accepted + gives .accepted)
+        → stepped p (Block q (flagOf wrong)) (figuresHere p s) ≡ figuresWith (gives .state) (s .accepted + gives .accepted)
     unfolding stepped creditStep levelStep continuousStep acceptedBy isLot figuresIn afterBlock
     block-made gives same = rw (same, flag-test wrong)
 
@@ -204,11 +204,11 @@ module _ (p : Plan) (s : Place) (on : OnContinuous p s) where
 
   -- a stop
   module _ (why days : ℕ) where
-    stop-fits : accepts p (figuresAt p s) 0 (Stop why days) ≡ isStop why days
+    stop-fits : accepts p (figuresHere p s) 0 (Stop why days) ≡ isStop why days
     unfolding tried isDiscontinued noLevel figuresIn
-    stop-fits = ap (λ (x : Entered). x .sound) (stop-tried p (figuresAt p s) refl why days)
+    stop-fits = ap (λ (x : Entered). x .sound) (stop-tried p (figuresHere p s) refl why days)
 
-    stop-made : stepped p (Stop why days) (figuresAt p s) ≡ figuresWith (afterStop why days (stateOf (p .a) (s .left) (s .tail))) (s .accepted)
+    stop-made : stepped p (Stop why days) (figuresHere p s) ≡ figuresWith (afterStop why days (stateOf (p .a) (s .left) (s .tail))) (s .accepted)
     unfolding stepped creditStep levelStep continuousStep acceptedBy isLot figuresIn isLevel isContinuous
     stop-made =
         let none : s .accepted + 0 ≡ s .accepted = omega arith in
@@ -227,11 +227,11 @@ module _ (p : Plan) (s : Place) (on : OnContinuous p s) where
         stop-stands x stands = stood _ _ _ _ stop-fits stop-made (sym tested ∙ not-false ok fits) x (rw (stopped, here) at stands)
 
 module _ (low high n : ℕ) (ok : Bool) (tested : ok ≡ within low high n) (fits : not ok ≡ false) where
-  pub within-least : low ≤ n
-  within-least = within-of low high n (sym tested ∙ not-false ok fits) .0
+  pub from-least : low ≤ n
+  from-least = within-of low high n (sym tested ∙ not-false ok fits) .0
 
-  pub within-most : n ≤ high
-  within-most = within-of low high n (sym tested ∙ not-false ok fits) .1
+  pub to-most : n ≤ high
+  to-most = within-of low high n (sym tested ∙ not-false ok fits) .1
 
 -- ---- records, by how many numbers they have and by their head
 module _ (p : Plan) (s : Place) (r : Record) (on : OnContinuous p s) (more : Bool) (counted : more ≡ not (oneNumber r)) where
@@ -239,7 +239,7 @@ module _ (p : Plan) (s : Place) (r : Record) (on : OnContinuous p s) (more : Boo
   unfolding enteredAs Within
   more-fails several =
       let never : oneNumber r ≡ true → ⊥ = λ one. never-both (oneNumber r) one (not-true _ (sym counted ∙ several)) in
-      let stop = stop-record p (figuresAt p s) r (λ _. never-both _ (blocks p s on)) (λ one. absurd (never one)) (λ one. absurd (never one)) in
+      let stop = stop-record p (figuresHere p s) r (λ _. never-both _ (blocks p s on)) (λ one. absurd (never one)) (λ one. absurd (never one)) in
       record { same = sym (stop ∙ rw (← why-more r more counted several) (no-stop p _ r (r .a))); within = tt }
 
   module _ (single : more ≡ false) (head : ℕ) (said : head ≡ headOf r) where
@@ -259,47 +259,47 @@ module _ (p : Plan) (s : Place) (r : Record) (on : OnContinuous p s) (more : Boo
       pub wrong-block : (x : Step) → Gives p s x (Block (r .a) 1) → head ≡ 259 → (after : Place) → x ≡ Stands after → Enters p s (Stands after) r
       wrong-block x steps e after stands = rw (block-record p _ r kinds flags one 1 (omega arith) (sym said ∙ e)) (rw stands at steps)
 
--- and a stop's, where no run or block of that head is accepted: of the phase that is, the right one has another head, and the wrong one too or
--- it does not fit
-refused : (p : Plan) (s : Place) (e : Entry) (x : Step) → x ≡ Fails → Gives p s x e → accepts p (figuresAt p s) 0 e ≡ false
+-- and a stop's, where no run or block of that head is accepted. In sampling no run is; a right block has another head; and a wrong one has
+-- another head, or does not fit. In screening the same with run and block exchanged.
+not-accepted : (p : Plan) (s : Place) (e : Entry) (x : Step) → x ≡ Fails → Gives p s x e → accepts p (figuresHere p s) 0 e ≡ false
 unfolding tried enteredAs unsoundAt
-refused p s e x fails steps = sym (ap (λ (y : Entered). y .sound) (rw fails at (steps .same)))
+not-accepted p s e x fails steps = sym (ap (λ (y : Entered). y .sound) (rw fails at (steps .same)))
 
 module _ (p : Plan) (s : Place) (r : Record) (x : Step) (on : OnContinuous p s) (head why : ℕ) (said : head ≡ headOf r) (stop : why ≡ whyOf r)
     (steps : Gives p s x (Stop why (r .a))) where
-  left : ((w : ℕ) → w ≤ 1 → head ≡ 2 + w * 256 → accepts p (figuresAt p s) 0 (Run (r .a) w) ≡ false)
-      → ((w : ℕ) → w ≤ 1 → head ≡ 3 + w * 256 → accepts p (figuresAt p s) 0 (Block (r .a) w) ≡ false) → Enters p s x r
+  left : ((w : ℕ) → w ≤ 1 → head ≡ 2 + w * 256 → accepts p (figuresHere p s) 0 (Run (r .a) w) ≡ false)
+      → ((w : ℕ) → w ≤ 1 → head ≡ 3 + w * 256 → accepts p (figuresHere p s) 0 (Block (r .a) w) ≡ false) → Enters p s x r
   left run block = rw (
-    stop-record p (figuresAt p s) r (λ _. never-both _ (blocks p s on)) (λ _ _ w most e. run w most (said ∙ e))
+    stop-record p (figuresHere p s) r (λ _. never-both _ (blocks p s on)) (λ _ _ w most e. run w most (said ∙ e))
         (λ _ _ w most e. block w most (said ∙ e)),
     ← stop,
   ) steps
 
   module _ (none : s .left ≡ 0) (right : head ≡ 3 → ⊥) where
-    sampling : (head ≡ 259 → accepts p (figuresAt p s) 0 (Block (r .a) 1) ≡ false) → Enters p s x r
+    sampling : (head ≡ 259 → accepts p (figuresHere p s) 0 (Block (r .a) 1) ≡ false) → Enters p s x r
     sampling wrong = left (λ w most e. no-run p (blocks p s on) s none (r .a) w) go
       where
-        go : (w : ℕ) → w ≤ 1 → head ≡ 3 + w * 256 → accepts p (figuresAt p s) 0 (Block (r .a) w) ≡ false
+        go : (w : ℕ) → w ≤ 1 → head ≡ 3 + w * 256 → accepts p (figuresHere p s) 0 (Block (r .a) w) ≡ false
         go w most e = let one : w ≡ 1 = omega arith in rw one (wrong (omega arith))
 
     pub sampling-other : (head ≡ 259 → ⊥) → Enters p s x r
     sampling-other wrong = sampling (λ e. absurd (wrong e))
 
     pub sampling-unfit : (y : Step) → y ≡ Fails → Gives p s y (Block (r .a) 1) → Enters p s x r
-    sampling-unfit y fails tried-so = sampling (λ _. refused p s _ y fails tried-so)
+    sampling-unfit y fails tried-so = sampling (λ _. not-accepted p s _ y fails tried-so)
 
   module _ (some : s .left ≡ 0 → ⊥) (right : head ≡ 2 → ⊥) where
-    screening : (head ≡ 258 → accepts p (figuresAt p s) 0 (Run (r .a) 1) ≡ false) → Enters p s x r
+    screening : (head ≡ 258 → accepts p (figuresHere p s) 0 (Run (r .a) 1) ≡ false) → Enters p s x r
     screening wrong = left go (λ w most e. no-block p (blocks p s on) s some (r .a) w)
       where
-        go : (w : ℕ) → w ≤ 1 → head ≡ 2 + w * 256 → accepts p (figuresAt p s) 0 (Run (r .a) w) ≡ false
+        go : (w : ℕ) → w ≤ 1 → head ≡ 2 + w * 256 → accepts p (figuresHere p s) 0 (Run (r .a) w) ≡ false
         go w most e = let one : w ≡ 1 = omega arith in rw one (wrong (omega arith))
 
     pub screening-other : (head ≡ 258 → ⊥) → Enters p s x r
     screening-other wrong = screening (λ e. absurd (wrong e))
 
     pub screening-unfit : (y : Step) → y ≡ Fails → Gives p s y (Run (r .a) 1) → Enters p s x r
-    screening-unfit y fails tried-so = screening (λ _. refused p s _ y fails tried-so)
+    screening-unfit y fails tried-so = screening (λ _. not-accepted p s _ y fails tried-so)
 
 pub ruleset tells = (fails-as, stands-as, fails-in, stands-in, stands-within, entered-read)
 
@@ -309,7 +309,7 @@ pub ruleset loops = (turns, start-counts, start-ready, start-within)
 
 pub ruleset runs = (clearance-most, sum-fits, run-fails, run-room, run-counts, run-stands)
 
-pub ruleset heard = (interval-most, sum-fits, within-least, within-most, no-block-here, block-fails, block-counts, block-stands)
+pub ruleset block-steps = (interval-most, sum-fits, from-least, to-most, no-block-here, block-fails, block-counts, block-stands)
 
 pub ruleset stops = (stop-fails, stop-counts, stop-stands)
 

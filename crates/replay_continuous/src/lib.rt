@@ -183,10 +183,10 @@ fn next(area: &[u8], plan: Plan, place: Place, at: usize) -> Outcome
     }
 }
 
-// What a record does to the place, and whether it could stand: the step of the entry that it holds. Speed: the phase is looked at first,
-// so that a block's head is not compared with a run's; and whether a wrong run or block fits before its head, so that the compiler keeps
-// this order, in which a right one costs one comparison of heads: else a long stream in sampling takes 1.25 times as long. One that does
-// not fit is no stop either.
+// What a record does to the place, and whether it could stand: the step of the entry that it holds. A wrong run or block that does not fit
+// goes the way of a stop, and fails there, since it has no why. Speed: the phase is looked at first, so that a block's head is not compared
+// with a run's. Whether a wrong run or block fits is asked before its head: so the compiler keeps this order, in which a right one costs one
+// comparison. By the heads alone a long stream in sampling takes 1.25 times as long.
 fn take(plan: Plan, place: Place, read: Record) -> Step
     requires { ⌜ OnContinuous plan place ⌝ }
     ensures { λ r. ⌜ Steps plan place r (entered plan (figuresIn (plan .a) place) 0 read) ⌝ }

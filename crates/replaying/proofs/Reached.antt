@@ -1,4 +1,4 @@
--- What is known of figures that calls could have left, with a place free. Assumes nothing.
+-- What is known of figures that calls could have left, and of a turn of the replay over them. Assumes nothing.
 use Prim.Native.Nat.{ℕ, _<_}
 use mathlib.Core.Path.{_≡_, _∙_}
 use mathlib.Core.Bool.{false}

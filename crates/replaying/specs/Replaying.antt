@@ -45,11 +45,12 @@ headOf r = r .kind + r .flag * 256 + r .spare * 65536
 unfoldable pub faultless : Record → Bool
 faultless r = eqb (headOf r) 1 && (eqb (r .c) 0 && eqb (r .d) 0)
 
--- a stop's record, paper 01, "The store": kind 4, its why as the flag, two zero bytes, its days, and zeros; the why is 1 or 2
+-- the record of a stop that was accepted, paper 01, "The store": kind 4, its why as the flag, two zero bytes, its days, and zeros; the why
+-- is one of those that there are, 1 or 2
 unfoldable pub holdsStop : Record → Bool
 holdsStop r = eqb (r .kind) 4 && within 1 2 (r .flag) && eqb (r .spare) 0 && oneNumber r
 
--- the why of the stop that a record holds, 0 where it holds none
+-- the why of the stop that a record holds, 0 where it holds none, or one for a why that there is not: 15 refuses both
 unfoldable pub whyOf : Record → ℕ
 whyOf r = cond (holdsStop r) (r .flag) 0
 

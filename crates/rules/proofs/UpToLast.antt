@@ -1,5 +1,5 @@
 -- Refusals in turn. The first laws are for the search: which refusal is given, test after test, each test from what the code has learnt of
--- it. The last ones say what the first that applies but for the last in a list tells of the whole list. Assumes nothing.
+-- it. The last laws say what the earlier refusals of a list tell of the whole list. Assumes nothing.
 use Prim.Native.Nat.{ℕ}
 use mathlib.Core.Path.{_≡_, refl, sym, _∙_}
 use mathlib.Core.Bool.{Bool, true, false, cond, not, _||_}
@@ -11,7 +11,7 @@ use Rattle.model.specs.declared.Entry.{Entry}
 use Rattle.model.specs.declared.Entry.the-variants.{Lot, Run, Block, Stop}
 use Rattle.model.specs.declared.Figures.{Figures}
 use Rattle.model.specs.Calls.{Refusal, refuse, firstOf, entryRefusals, accepts}
-use Rattle.rules.specs.Refusing.{earlier, lastOf}
+use Rattle.rules.specs.Refusing.{earlier}
 
 -- the first applies, or it is passed
 pub given : (n : ℕ) (applies : Bool) (rs : List Refusal) → applies ≡ true → n ≡ firstOf (refuse n applies ∷ rs)
@@ -55,7 +55,7 @@ not-one a x = rw x
 pub not-other : (a : Bool) → a ≡ false → not a ≡ true
 not-other a x = rw x
 
-pub ruleset turns = (
+pub ruleset in-turn = (
   given,
   passed-by,
   none-left,
@@ -77,6 +77,14 @@ pub ruleset turns = (
 )
 
 -- ---- what the earlier ones tell of the whole list
+
+-- the last of an entry's: it is given where no earlier one applies and the step of the plan fails
+abbrev pub lastOf : Entry → ℕ
+lastOf (Lot label N n d D) = 13
+lastOf (Run h w) = 14
+lastOf (Block q w) = 14
+lastOf (Stop why days) = 15
+
 -- one of them applies: it is the first of all
 pub first-earlier : (rs : List Refusal) → (firstOf (earlier rs) ≡ 0 → ⊥) → firstOf (earlier rs) ≡ firstOf rs
 unfolding firstOf earlier

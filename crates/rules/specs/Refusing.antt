@@ -18,23 +18,17 @@ earlier [] = []
 earlier (r ∷ []) = []
 earlier (r ∷ s ∷ rs) = r ∷ earlier (s ∷ rs)
 
--- the last of an entry's: it is given where no earlier one applies and the step of the plan fails
-abbrev pub lastOf : Entry → ℕ
-lastOf (Lot label N n d D) = 13
-lastOf (Run h w) = 14
-lastOf (Block q w) = 14
-lastOf (Stop why days) = 15
-
 -- r is the first that applies of an entry's earlier refusals, 0 where none does
 abbrev pub UpToLast : Plan → Figures → ℕ → Entry → ℕ → Type 0
 UpToLast p f count e r = r ≡ firstOf (earlier (entryRefusals p f count e))
 
--- the same of a lot, of a run or block, and of a stop, whatever the numbers that none but the last looks at
+-- the same of a lot, of a run or block, and of a stop, whatever it is that only the last looks at: a lot's counts; the figures; the plan and
+-- the stop itself
 unfoldable pub LotUpToLast : Plan → Figures → ℕ → ℕ → ℕ → ℕ → ℕ → Type 0
 LotUpToLast p f count label N n r = (d D : ℕ) → UpToLast p f count (Lot label N n d D) r
 
-unfoldable pub ContinuousUpToLast : Plan → ℕ → Entry → ℕ → Type 0
-ContinuousUpToLast p count e r = (f : Figures) → UpToLast p f count e r
+unfoldable pub RunOrBlockUpToLast : Plan → ℕ → Entry → ℕ → Type 0
+RunOrBlockUpToLast p count e r = (f : Figures) → UpToLast p f count e r
 
 unfoldable pub StopUpToLast : Figures → ℕ → ℕ → Type 0
 StopUpToLast f count r = (p : Plan) (why days : ℕ) → UpToLast p f count (Stop why days) r

@@ -12,7 +12,7 @@ ghost use Rattle.model.specs.Sizes.{mostRecords};
 ghost use Rattle.model.specs.Stations.{validPlan, within, isLevel};
 ghost use Rattle.model.specs.Calls.{firstOf, askRefusals, isDiscontinued, sizeInRange, countsAgree};
 ghost use Rattle.model.specs.FigureBounds.{FiguresWithin};
-ghost use Rattle.rules.specs.Refusing.{LotUpToLast, ContinuousUpToLast, StopUpToLast, mayFollow, isStop};
+ghost use Rattle.rules.specs.Refusing.{LotUpToLast, RunOrBlockUpToLast, StopUpToLast, mayFollow, isStop};
 use crate::asking;
 use crate::plan;
 use model::Figures;
@@ -51,7 +51,7 @@ pub fn lot(plan: Plan, figures: Figures, count: usize, label: u32, size: u32, sa
 
 // The refusal of a run, up to 15.
 pub fn run(plan: Plan, count: usize, right: u32, wrong: u32) -> u32
-    ensures { λ r. ⌜ ContinuousUpToLast plan count (Run right wrong) r ⌝ }
+    ensures { λ r. ⌜ RunOrBlockUpToLast plan count (Run right wrong) r ⌝ }
 {
     if plan.kind != plan::CONTINUOUS {
         return 7;
@@ -73,7 +73,7 @@ pub fn run(plan: Plan, count: usize, right: u32, wrong: u32) -> u32
 
 // The refusal of a block, up to 15.
 pub fn block(plan: Plan, count: usize, heard: u32, wrong: u32) -> u32
-    ensures { λ r. ⌜ ContinuousUpToLast plan count (Block heard wrong) r ⌝ }
+    ensures { λ r. ⌜ RunOrBlockUpToLast plan count (Block heard wrong) r ⌝ }
 {
     if plan.kind != plan::CONTINUOUS {
         return 7;

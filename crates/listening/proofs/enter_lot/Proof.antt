@@ -1,5 +1,5 @@
 -- Refused by what is seen of the stream, by its own refusals up to the last, or by the last where the step fails; else entered.
-use Rattle.listening.proofs.Trying.{lots, lot-heard}
+use Rattle.listening.proofs.Trying.{lots, lot-counted}
 use borrow.Author.Needs.{needs}
 use Rattle.listening.proofs.enter_lot.Statement.{statement}
 use Rattle.listening.proofs.enter_lot.Tie as tie
@@ -9,7 +9,7 @@ lot-requires-2 c κs =
     let tried = c .before .before .before in
     let told = tried .before .before in
     let seen = told .before .before .before in
-    lot-heard _ _ _ _ _ _ _ _ _ _ (tried .enter-lot .ensures) (c .before .if3 .left) (told .lot .ensures) (tried .before .if2 .left)
+    lot-counted _ _ _ _ _ _ _ _ _ _ (tried .enter-lot .ensures) (c .before .if3 .left) (told .lot .ensures) (tried .before .if2 .left)
     (seen .before .before .look .ensures) (seen .if1 .left)
 
 pub enter-lot-spec : {M : Type 1} → statement M

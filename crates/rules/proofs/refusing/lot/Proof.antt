@@ -1,5 +1,5 @@
 -- Each test in turn.
-use Rattle.rules.proofs.UpToLast.{turns}
+use Rattle.rules.proofs.UpToLast.{in-turn}
 use Rattle.model.specs.Stations.{isContinuous}
 use Rattle.model.specs.Calls.{entryRefusals, isFull, sameLabel}
 use Rattle.rules.specs.Refusing.{LotUpToLast, earlier}
@@ -12,11 +12,11 @@ sample-requires : tie.Need-sample-requires
 unfolding isContinuous
 sample-requires c κs =
     let size = size-passed _ _ _ (c .before .is-size .ensures) (c .if5 .left) in
-    (search, search turns, search credit-within, size .0, size .1)
+    (search, search in-turn, search credit-within, size .0, size .1)
 
 pub lot-spec : {M : Type 1} → statement M
 unfolding LotUpToLast earlier entryRefusals isContinuous isFull sameLabel
 lot-spec =
     tie.close
-    (tie.spec (λ c. search turns depth 12) (λ c κs. search needs) (λ c. search turns depth 12) (λ c. search turns depth 12) (λ c κs. search needs) (λ c. search turns depth 12) (λ c κs. search needs) (λ c. search turns depth 12) sample-requires
-    (λ c. search turns depth 12) (λ c. search turns depth 12))
+    (tie.spec (λ c. search in-turn depth 12) (λ c κs. search needs) (λ c. search in-turn depth 12) (λ c. search in-turn depth 12) (λ c κs. search needs) (λ c. search in-turn depth 12) (λ c κs. search needs) (λ c. search in-turn depth 12) sample-requires
+    (λ c. search in-turn depth 12) (λ c. search in-turn depth 12))

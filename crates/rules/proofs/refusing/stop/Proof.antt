@@ -1,5 +1,5 @@
 -- Each test in turn.
-use Rattle.rules.proofs.UpToLast.{turns}
+use Rattle.rules.proofs.UpToLast.{in-turn}
 use Rattle.model.specs.Calls.{entryRefusals, isFull}
 use Rattle.rules.specs.Refusing.{StopUpToLast, earlier}
 use borrow.Author.Needs.{needs}
@@ -8,4 +8,4 @@ use Rattle.rules.proofs.refusing.stop.Tie as tie
 
 pub stop-spec : {M : Type 1} → statement M
 unfolding StopUpToLast earlier entryRefusals isFull
-stop-spec = tie.close (tie.spec (λ c κs. search needs) (λ c. search turns depth 12) (λ c. search turns depth 12) (λ c. search turns depth 12))
+stop-spec = tie.close (tie.spec (λ c κs. search needs) (λ c. search in-turn depth 12) (λ c. search in-turn depth 12) (λ c. search in-turn depth 12))
