@@ -7,7 +7,7 @@ use lib.Dec.{eqb, leb}
 use Rattle.plans.specs.Limits.{largestLot, longestStop}
 use Rattle.model.specs.declared.Plan.{Plan}
 use Rattle.model.specs.declared.Entry.{Entry}
-use Rattle.model.specs.declared.Entry.the-variants.{Lot, Run, Block, Stop}
+use Rattle.model.specs.declared.Entry.the-variants.{Lot, Stop}
 use Rattle.model.specs.declared.Figures.{Figures}
 use Rattle.model.specs.Stations.{within}
 use Rattle.model.specs.Calls.{Refusal, firstOf, entryRefusals}
