@@ -19,11 +19,11 @@ use Rattle.model.proofs.Booleans.{holds-of, of-holds, never-both}
 use Rattle.records.specs.Records.{Decides}
 use Rattle.records.proofs.Laws.{decided-not, refuted}
 use Rattle.replaying.specs.declared.Entered.{Entered}
-use Rattle.replaying.specs.Replaying.{recordsIn, figuresTo, standTo, Ready, Replayed}
+use Rattle.replaying.specs.Replaying.{recordsIn, figuresTo, standTo, Ready, replayed}
 use Rattle.replay.specs.declared.Standing.{Standing}
 use Rattle.replay.specs.Standing.{nothingStands, standingOf, Headed, HeaderFits}
 use Rattle.model.specs.Figuring.{started}
-use Rattle.replaying.proofs.Turns.{stand-none, figures-none}
+use Rattle.replaying.proofs.Turns.{stand-none, figures-none, all-stand, figures-after}
 use Rattle.replaying.proofs.Parts.{length-entries, stand-fails, parts-sound, SoundParts, sound-parts, zero-parts}
 
 -- the entries of fewer records are the older ones
@@ -99,10 +99,10 @@ module _ (newest : ℕ) where
     same-count p es parts = sym (header .counted ∙ parts .count)
 
     -- one of the first records cannot stand
-    pub says-failed : (r : Entered) (to : ℕ) → to ≡ count - newest → Replayed plan area to r → not (r .sound) ≡ true
+    pub says-failed : (r : Entered) (to : ℕ) → to ≡ count - newest → r ≡ replayed plan area to → not (r .sound) ≡ true
         → nothingStands 3 ≡ standingOf newest (reading area)
-    says-failed r to fewest replayed fails =
-        let fewer = stand-fails plan area to count (omega arith) (sym (replayed .allStand) ∙ not-true (r .sound) fails) in
+    says-failed r to fewest gives fails =
+        let fewer = stand-fails plan area to count (omega arith) (sym (all-stand plan area to r gives) ∙ not-true (r .sound) fails) in
         says-unsound area (header .kind)
         (λ p es parts.
         never-both (standTo p area (length es)) (parts .stand) (rw (same-plan p es parts, same-count p es parts) fewer))
@@ -178,16 +178,16 @@ ready-first area plan count newest to f header begun fewest =
     }
 
 pub ready-rest : (area : List ℕ) (plan : Plan) (count newest to : ℕ) (r : Entered) → Headed area plan count → to ≡ count - newest
-    → Replayed plan area to r → not (r .sound) ≡ false → Ready plan area (r .figures) to count
-ready-rest area plan count newest to r header fewest replayed stands =
+    → r ≡ replayed plan area to → not (r .sound) ≡ false → Ready plan area (r .figures) to count
+ready-rest area plan count newest to r header fewest gives stands =
     let sound = not-false (r .sound) stands in
     record {
       whole = header .whole;
       valid = header .valid;
       inOrder = omega arith;
       room = header .room;
-      stood = sym (replayed .allStand) ∙ sound;
-      brought = replayed .figuresAfter sound;
+      stood = sym (all-stand plan area to r gives) ∙ sound;
+      brought = figures-after plan area to r gives sound;
     }
 
 pub ruleset sayings = (

@@ -8,7 +8,7 @@ ghost use Rattle.model.specs.Area.{reading};
 ghost use Rattle.records.specs.Records.{Decides};
 ghost use Rattle.model.specs.declared.Entry.the-variants.{Stop};
 ghost use Rattle.model.specs.Stations.{isContinuous};
-ghost use Rattle.replaying.specs.Replaying.{Ready, Replayed, Reached, tried, askedLot};
+ghost use Rattle.replaying.specs.Replaying.{Ready, replayed, Reached, tried, askedLot};
 ghost use Rattle.replay.specs.Standing.{nothingStands, standingOf, Headed, HeaderFits};
 use model::Figures;
 use model::Plan;
@@ -35,7 +35,7 @@ pub const UNOPENED: u32 = 6;
 // to date entry after entry.
 pub fn replay(area: &[u8], plan: Plan, figures: Figures, from: usize, to: usize) -> Entered
     requires { ⌜ Ready plan (now area) figures from to ⌝ }
-    ensures { λ r. ⌜ Replayed plan (now (area .entry)) to r ⌝ }
+    ensures { λ r. ⌜ r ≡ replayed plan (now (area .entry)) to ⌝ }
 {
     if plan.kind == plan::CREDIT {
         return replay_credit::replay(area, plan, figures, from, to);
@@ -163,7 +163,7 @@ fn fits_header(area: &[u8], plan: Plan, figures: Figures, from: usize, to: usize
 // takes up to 1.25 times as long on level plans and 1.8 times on continuous ones.
 fn replay_newest(area: &[u8], plan: Plan, figures: Figures, from: usize, to: usize) -> Entered
     requires { ⌜ Ready plan (now area) figures from to ⌝ }
-    ensures { λ r. ⌜ Replayed plan (now (area .entry)) to r ⌝ }
+    ensures { λ r. ⌜ r ≡ replayed plan (now (area .entry)) to ⌝ }
 {
     if plan.kind == plan::CREDIT {
         return replay_credit::replay(area, plan, figures, from, to);

@@ -11,7 +11,7 @@ ghost use Rattle.little.specs.Little.{part};
 ghost use Rattle.model.specs.Sizes.{recordLength};
 ghost use Rattle.model.specs.declared.Entry.the-variants.{Run, Block, Stop};
 ghost use Rattle.records.specs.Records.{recordIn};
-ghost use Rattle.replaying.specs.Replaying.{Ready, Replayed, Reached, entered, tried};
+ghost use Rattle.replaying.specs.Replaying.{Ready, replayed, Reached, entered, tried};
 ghost use Rattle.replay_continuous.specs.declared.Step.the-variants.{Stands};
 ghost use Rattle.replay_continuous.specs.Places.{
   leftOf,
@@ -64,7 +64,7 @@ struct Outcome {
 // entry.
 pub fn replay(area: &[u8], plan: Plan, figures: Figures, from: usize, to: usize) -> Entered
     requires { ⌜ Ready plan (now area) figures from to × (plan .kind ≡ 3) ⌝ }
-    ensures { λ r. ⌜ Replayed plan (now (area .entry)) to r ⌝ }
+    ensures { λ r. ⌜ r ≡ replayed plan (now (area .entry)) to ⌝ }
 {
     let mut place = place_from(plan.a, figures);
     let mut i = from;
@@ -78,7 +78,7 @@ pub fn replay(area: &[u8], plan: Plan, figures: Figures, from: usize, to: usize)
         if !next.stands {
             return Entered {
                 sound: false,
-                figures: plan::started(plan),
+                figures: figures_at(plan.a, place),
             };
         }
         place = next.place;

@@ -7,7 +7,7 @@ ghost use Rattle.little.specs.Little.{part};
 ghost use Rattle.model.specs.Sizes.{recordLength};
 ghost use Rattle.model.specs.declared.Entry.the-variants.{Stop};
 ghost use Rattle.records.specs.Records.{recordIn};
-ghost use Rattle.replaying.specs.Replaying.{Ready, Replayed, Reached, entered, tried, askedLot};
+ghost use Rattle.replaying.specs.Replaying.{Ready, replayed, Reached, entered, tried, askedLot};
 ghost use Rattle.replay_credit.specs.Carrying.{figuresIn, carriedFrom, OnCredit, enteredAs, toldAs, ReadAt};
 use model::Figures;
 use model::Plan;
@@ -44,7 +44,7 @@ struct Outcome {
 // The figures after more of the records of a credit stream, and whether each of these could stand: brought up to date entry after entry.
 pub fn replay(area: &[u8], plan: Plan, figures: Figures, from: usize, to: usize) -> Entered
     requires { ⌜ Ready plan (now area) figures from to × (plan .kind ≡ 1) ⌝ }
-    ensures { λ r. ⌜ Replayed plan (now (area .entry)) to r ⌝ }
+    ensures { λ r. ⌜ r ≡ replayed plan (now (area .entry)) to ⌝ }
 {
     let mut carried = carried_from(figures);
     let mut i = from;

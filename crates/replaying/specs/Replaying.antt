@@ -13,7 +13,7 @@ use Rattle.model.specs.declared.Figures.{Figures}
 use Rattle.model.specs.Calls.{accepts, admissible}
 use Rattle.model.specs.Sizes.{recordLength, headerLength, mostRecords, areaLength}
 use Rattle.model.specs.Stations.{validPlan, within}
-use Rattle.model.specs.Figuring.{sampleAsked, stepped, figuresOf}
+use Rattle.model.specs.Figuring.{sampleAsked, started, stepped, figuresOf}
 use Rattle.model.specs.Area.{entriesIn}
 use Rattle.records.specs.declared.Record.{Record}
 use Rattle.records.specs.Records.{recordIn, recordAt}
@@ -111,7 +111,8 @@ pub record Ready (p : Plan) (area : List ℕ) (f : Figures) (from to : ℕ) : Ty
   pub stood : standTo p area from ≡ true
   pub brought : f ≡ figuresTo p area from
 
--- what a replay of an area's first records gives: whether each stands, and if so the figures after them
-pub record Replayed (p : Plan) (area : List ℕ) (count : ℕ) (r : Entered) : Type 0 where
-  pub allStand : r .sound ≡ standTo p area count
-  pub figuresAfter : r .sound ≡ true → r .figures ≡ figuresTo p area count
+-- what a replay of an area's first records gives, entry after entry: the figures after them where each stands, and else those before the
+-- first that does not
+unfoldable pub replayed : Plan → List ℕ → ℕ → Entered
+replayed p area zero = soundAt (started p)
+replayed p area (suc i) = cond (standTo p area (suc i)) (soundAt (figuresTo p area (suc i))) (unsoundAt (replayed p area i .figures))

@@ -1,5 +1,6 @@
 use mathlib.Core.Path.{sym, _∙_}
 use borrow.Author.Tests.{not-true, not-false}
+use Rattle.replaying.proofs.Turns.{all-stand, figures-after}
 use Rattle.replay.proofs.Readings.{fits-stored, fits-no-failed}
 use borrow.Author.Needs.{needs}
 use Rattle.replay.proofs.fits_header.Statement.{statement}
@@ -14,13 +15,13 @@ returns c =
 returns-2 : tie.Need-returns-2
 returns-2 c =
     let all = c .before .before .replay-newest in
-    fits-no-failed _ _ _ (sym (all .ensures .allStand) ∙ not-true (all .result .sound) (c .if2 .taken))
+    fits-no-failed _ _ _ (sym (all-stand _ _ _ _ (all .ensures)) ∙ not-true (all .result .sound) (c .if2 .taken))
 
 returns-3 : tie.Need-returns-3
 returns-3 c =
     let all = c .before .before .before .replay-newest in
     let sound = not-false (all .result .sound) (c .before .if2 .left) in
-    fits-stored _ _ _ _ _ (sym (all .ensures .allStand) ∙ sound) (all .ensures .figuresAfter sound) (c .has-figures2 .ensures)
+    fits-stored _ _ _ _ _ (sym (all-stand _ _ _ _ (all .ensures)) ∙ sound) (figures-after _ _ _ _ (all .ensures) sound) (c .has-figures2 .ensures)
 
 pub fits-header-spec : {M : Type 1} → statement M
 fits-header-spec = tie.close (tie.spec (λ c κs. search needs) returns (λ c κs. search needs) returns-2 (λ c κs. search needs) returns-3)

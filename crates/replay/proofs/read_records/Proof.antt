@@ -1,4 +1,5 @@
 -- Unsound where an older record could not stand, something stands behind the last, or the header holds others; else opened.
+use Rattle.replaying.proofs.Turns.{figures-after}
 use Rattle.replay.proofs.Readings.{sayings, says-opened}
 use borrow.Author.Tests.{not-false}
 use Rattle.little.specs.Little.{AreBytes}
@@ -20,7 +21,7 @@ returns-4 c =
     let clear = looked .is-zero-from in
     let bytes : AreBytes (start .args .area .now) = λ k. cut .before .shared-slice-known .given k .fits in
     says-opened (start .args .newest) (start .args .area .now) (start .args .plan) (start .args .count) (start .pre) (older .result .figures) bytes
-    (rw (cut .without .ensures) at (older .ensures .figuresAfter (not-false (older .result .sound) (stood .if1 .left))))
+    (rw (cut .without .ensures) at (figures-after _ _ _ _ (older .ensures) (not-false (older .result .sound) (stood .if1 .left))))
     (fits .ensures .shows (not-false (fits .result) (c .if3 .left)))
     (clear .ensures .shows (not-false (clear .result) (clear-behind .if2 .left)))
 

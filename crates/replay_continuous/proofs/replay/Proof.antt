@@ -23,5 +23,5 @@ unfolding toldAs
 replay-spec =
     tie.close
     (tie.spec Inv-loop μ-loop (λ c κs. let bytes = bytes-of c in search loops) (λ c. let bytes = bytes-of (c .before) in search loops) (λ c. omega arith) (λ c. omega arith)
-    (λ c κs. let bytes = bytes-of (c .before .before .before) in search loops) (λ c κs. tt) (λ c. search loops) (λ c. search needs) (λ c. omega arith) (λ c. search loops)
+    (λ c κs. let bytes = bytes-of (c .before .before .before) in search loops) (λ c κs. search needs) (λ c. search loops) (λ c. search needs) (λ c. omega arith) (λ c. search loops)
     (λ c κs. search needs) (λ c. search loops))
