@@ -45,20 +45,12 @@ pub fn sample_size(vl: u32, severity: u32, size: LotSize) -> SampleSize
 }
 
 // The number in Table 2's first row, on reduced. Numbers grow down a column and to the left, so that no lot asks for less at this level,
-// unless it is smaller itself. A match is compiled to one load; a constant table is built anew wherever it is indexed.
+// unless it is smaller itself.
 pub fn least_sample(vl: u32) -> u32
     requires { ⌜ (1 ≤ vl) × (vl ≤ verificationLevels) ⌝ }
     ensures { λ r. ⌜ r ≡ tabled firstLetter (columnAt vl reduced) ⌝ }
 {
-    match vl {
-        1 => 3,
-        2 => 5,
-        3 => 12,
-        4 => 32,
-        5 => 80,
-        6 => 200,
-        _ => 512,
-    }
+    SAMPLE_SIZES[A as usize][column(vl as usize, level::REDUCED)]
 }
 
 // The code letter of a lot size at the stated verification level.
