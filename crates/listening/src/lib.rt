@@ -28,6 +28,8 @@ use model::Plan;
 use model::sizes;
 use model::sizes::STORE_LENGTH;
 use model::sizes::STREAMS;
+use plans::LotSize;
+use plans::SampleSize;
 use replay::Standing;
 use rules::answering;
 use rules::asking;
@@ -72,19 +74,27 @@ pub fn lot(
 ) -> Answer
     ensures { λ r. ⌜ record { answer = r; store = now (store .exit) } ≡ onStore (now (store .entry)) (on stream (Enter (Lot label size sample wrong «wrong_in_all»))) ⌝ }
 {
-    words::in_words(enter_lot(store, stream, label, size, sample, wrong, wrong_in_all))
+    words::in_words(enter_lot(
+        store,
+        stream,
+        label,
+        LotSize(size),
+        SampleSize(sample),
+        wrong,
+        wrong_in_all,
+    ))
 }
 
 fn enter_lot(
     store: &mut [u8],
     stream: u32,
     label: u32,
-    size: u32,
-    sample: u32,
+    size: LotSize,
+    sample: SampleSize,
     wrong: u32,
     wrong_in_all: u32,
 ) -> Answer
-    ensures { λ r. ⌜ record { answer = r; store = now (store .exit) } ≡ onStore (now (store .entry)) (on stream (Enter (Lot label size sample wrong «wrong_in_all»))) ⌝ }
+    ensures { λ r. ⌜ record { answer = r; store = now (store .exit) } ≡ onStore (now (store .entry)) (on stream (Enter (Lot label (size .0) (sample .0) wrong «wrong_in_all»))) ⌝ }
 {
     let standing = look(store, stream, 0);
     if standing.refusal != 0 {
@@ -110,7 +120,7 @@ fn enter_lot(
         records::LOT,
         0,
         label,
-        size,
+        size.0,
         wrong,
         wrong_in_all,
         after,
@@ -263,11 +273,12 @@ pub fn ask(store: &[u8], stream: u32, size: u32) -> Answer
     }
     let plan = standing.plan;
     let figures = standing.figures;
-    let refusal = refusing::ask(plan, figures, size);
+    let lot = LotSize(size);
+    let refusal = refusing::ask(plan, figures, lot);
     if refusal != 0 {
         return answering::refused(refusal);
     }
-    answering::gives(asking::sample(plan, figures, size), 0, 0)
+    answering::gives(asking::sample(plan, figures, lot).0, 0, 0)
 }
 
 // The count, what is accepted, and the figure of the plan.

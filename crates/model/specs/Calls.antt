@@ -42,7 +42,7 @@ isFull count = leb mostRecords count
 
 -- 10: the label equals the newest standing lot's
 unfoldable pub sameLabel : Figures → ℕ → Bool
-sameLabel f label = eqb label (f .newest)
+sameLabel f label = eqb (label + 1) (f .above)
 
 -- 11: N from 1 (level: 2) to 1,000,000
 unfoldable pub sizeInRange : Plan → ℕ → Bool

@@ -17,10 +17,6 @@ use Rattle.model.specs.declared.Entry.the-variants.{Lot, Run, Block, Sto
 use Rattle.model.specs.declared.Figures.{Figures}
 use Rattle.model.specs.Stations.{isCredit, isLevel, isContinuous, hasOption}
 
--- in place of the newest lot's label where no lot stands: 2 ^ 32, as large as no label is
-abbrev pub noLabel : ℕ
-noLabel = 4294967296
-
 -- the level figures of a stream that has none
 unfoldable pub noLevel : LevelState
 noLevel = record { level = 0; row = 0; judged = 0; window = 0 }
@@ -33,7 +29,7 @@ withLevel level =
       level = level;
       continuous = screening 0;
       accepted = 0;
-      newest = noLabel;
+      above = 0;
     }
 
 -- the figures when a stream is opened; figures foreign to the plan are zero
@@ -93,7 +89,7 @@ stepped p e f =
       level = levelStep p e (f .level);
       continuous = continuousStep p e (f .continuous);
       accepted = f .accepted + acceptedBy p f e;
-      newest = cond (isLot e) (labelOf e) (f .newest);
+      above = cond (isLot e) (labelOf e + 1) (f .above);
     }
 
 -- the figures of a stream with these standing entries

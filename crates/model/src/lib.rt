@@ -67,15 +67,13 @@ pub struct Answer {
     pub third: u32,
 }
 
-// In place of the newest lot's label where no lot stands: 2^32, as large as no label is.
-pub const NO_LABEL: u64 = 4294967296;
-
-// A stream's figures, and the label of its newest standing lot, or NO_LABEL.
+// A stream's figures.
 //
 // The words come first, and there is no flag: a struct goes from function to function in memory, and the processor waits where a
 // number is read in another width than it was written in.
 pub struct Figures {
-    pub newest: u64,
+    // the least label above the newest standing lot's, 0 where no lot stands
+    pub above: u64,
     pub accepted: u64,
     pub continuous: Continuous,
     pub credit: Credit,

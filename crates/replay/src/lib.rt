@@ -13,6 +13,7 @@ ghost use Rattle.replay.specs.Standing.{nothingStands, standingOf, Heade
 use model::Figures;
 use model::Plan;
 use model::sizes;
+use plans::LotSize;
 use replaying::Entered;
 use rules::plan;
 
@@ -51,12 +52,12 @@ pub fn enter_lot(
     plan: Plan,
     figures: Figures,
     label: u32,
-    size: u32,
+    size: LotSize,
     wrong: u32,
     wrong_in_all: u32,
 ) -> Entered
     requires { ⌜ Reached plan figures × (isContinuous plan ≡ false) ⌝ }
-    ensures { λ r. ⌜ r ≡ tried plan figures (askedLot plan figures label size wrong «wrong_in_all») ⌝ }
+    ensures { λ r. ⌜ r ≡ tried plan figures (askedLot plan figures label (size .0) wrong «wrong_in_all») ⌝ }
 {
     if plan.kind == plan::CREDIT {
         return replay_credit::enter_lot(plan, figures, label, size, wrong, wrong_in_all);

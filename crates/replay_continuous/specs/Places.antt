@@ -12,7 +12,7 @@ use Rattle.model.specs.declared.Plan.{Plan}
 use Rattle.model.specs.declared.Figures.{Figures}
 use Rattle.model.specs.Sizes.{recordLength}
 use Rattle.model.specs.Stations.{within}
-use Rattle.model.specs.Figuring.{noLevel, noLabel}
+use Rattle.model.specs.Figuring.{noLevel}
 use Rattle.replaying.specs.declared.Entered.{Entered}
 use Rattle.records.specs.declared.Record.{Record}
 use Rattle.replaying.specs.Replaying.{Reached, entered, soundAt, unsoundAt}
@@ -37,7 +37,7 @@ figuresWith state accepted =
       level = noLevel;
       continuous = state;
       accepted = accepted;
-      newest = noLabel;
+      above = 0;
     }
 
 -- and of a place

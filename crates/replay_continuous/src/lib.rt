@@ -29,7 +29,6 @@ ghost use Rattle.replay_continuous.specs.Places.{
   ReadAt,
 };
 use model::Figures;
-use model::NO_LABEL;
 use model::Plan;
 use model::sizes;
 use plans::continuous;
@@ -342,6 +341,6 @@ fn figures_at(clearance: u32, place: Place) -> Figures
         },
         continuous,
         accepted: place.accepted,
-        newest: NO_LABEL,
+        above: 0,
     }
 }

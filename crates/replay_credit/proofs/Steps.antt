@@ -11,6 +11,7 @@ use Rattle.little.specs.Little.{AreBytes}
 use Rattle.plans.specs.Limits.{largestLot, largestAoql, largestCredit}
 use Rattle.plans.specs.Credit.{creditSample, creditVerdict, creditAfter}
 use Rattle.plans.specs.Verdicts.{acceptedOf}
+use Rattle.plans.specs.declared.credit.Credit.{Credit}
 use Rattle.model.specs.declared.Plan.{Plan}
 use Rattle.model.specs.declared.Entry.the-variants.{Stop}
 use Rattle.model.specs.declared.Figures.{Figures}
@@ -99,7 +100,7 @@ module _ (p : Plan) (s : Carried) (on : OnCredit p s) where
       by-test b (figuresIn s) s
       ∙ sym
       (stop-tried p (figuresIn s) running why days
-      ∙ rw (stop-numbers (s .credit) noLevel (s .accepted) (s .newest) p why days lots, on .kind, test))
+      ∙ rw (stop-numbers (s .credit .0) noLevel (s .accepted) (s .above) p why days lots, on .kind, test))
 
   module _ (why days : ℕ) (ok : Bool) (tested : ok ≡ isStop why days) where
     pub stop-stands : ok ≡ true → StopGives p s why days (Stands s)
@@ -109,7 +110,7 @@ module _ (p : Plan) (s : Carried) (on : OnCredit p s) where
     stop-fails fits = stop-given why days false (sym tested ∙ fits)
 
   -- every sum is in range
-  pub credit-most : s .credit ≤ largestCredit
+  pub credit-most : s .credit .0 ≤ largestCredit
   unfolding figuresIn lotFigures
   credit-most = omega (arith, reached-within p (figuresIn s) (on .reached) .credits)
 
@@ -121,8 +122,8 @@ module _ (p : Plan) (s : Carried) (on : OnCredit p s) where
   sum-fits n small = omega (arith, reached-within p (figuresIn s) (on .reached) .acceptedIn)
 
   -- a lot, judged by the verdict and the sample of its credit
-  module _ (label N d D v n : ℕ) (judged : v ≡ creditVerdict (s .credit) (eqb (p .option) 1) d)
-      (asked : n ≡ creditSample (s .credit) N (p .a)) where
+  module _ (label N d D v n : ℕ) (judged : v ≡ creditVerdict (s .credit .0) (eqb (p .option) 1) d)
+      (asked : n ≡ creditSample (s .credit .0) N (p .a)) where
     judged-so : verdictOn p (figuresIn s) d ≡ v
     unfolding verdictOn isCredit hasOption figuresIn lotFigures
     judged-so = rw (on .kind) (sym judged)
@@ -131,24 +132,24 @@ module _ (p : Plan) (s : Carried) (on : OnCredit p s) where
     unfolding sampleAsked isCredit figuresIn lotFigures
     asked-so = rw (on .kind) (sym asked)
 
-    following : not (sameLabel (figuresIn s) label) && sizeInRange p N ≡ mayFollow 1 (s .newest) label N
+    following : not (sameLabel (figuresIn s) label) && sizeInRange p N ≡ mayFollow 1 (s .above) label N
     unfolding sameLabel sizeInRange isLevel mayFollow figuresIn lotFigures
     following = rw (on .kind)
 
     after : Carried
-    after = record { credit = creditAfter (s .credit) N d; accepted = s .accepted + acceptedOf v N D; newest = label }
+    after = record { credit = record { 0 = creditAfter (s .credit .0) N d }; accepted = s .accepted + acceptedOf v N D; above = label + 1 }
 
     stepped-so : stepped p (askedLot p (figuresIn s) label N d D) (figuresIn s) ≡ figuresIn after
     unfolding after askedLot figuresIn creditStep isCredit levelStep isLevel
-    stepped-so = lot-numbers (s .credit) noLevel (s .accepted) (s .newest) p label N _ d D ∙ rw (judged-so, on .kind)
+    stepped-so = lot-numbers (s .credit .0) noLevel (s .accepted) (s .above) p label N _ d D ∙ rw (judged-so, on .kind)
 
-    lot-given : (b : Bool) → mayFollow 1 (s .newest) label N && countsAgree v N n d D ≡ b → LotGives p s label N d D (cond b (Stands after) Fails)
+    lot-given : (b : Bool) → mayFollow 1 (s .above) label N && countsAgree v N n d D ≡ b → LotGives p s label N d D (cond b (Stands after) Fails)
     lot-given b test =
         by-test b (figuresIn s) after
         ∙ sym (lot-tried p (figuresIn s) running lots label N d D ∙ rw (judged-so, asked-so, following, stepped-so, test))
 
     -- no more is wrong than the lot holds
-    pub wrong-at-most : mayFollow 1 (s .newest) label N ≡ true → countsAgree v N n d D ≡ true → D ≤ N
+    pub wrong-at-most : mayFollow 1 (s .above) label N ≡ true → countsAgree v N n d D ≡ true → D ≤ N
     wrong-at-most may agree =
         let both = both-true (not (sameLabel (figuresIn s) label)) (sizeInRange p N) (following ∙ may) in
         let other = not-true (sameLabel (figuresIn s) label) (both .0) in
@@ -157,12 +158,12 @@ module _ (p : Plan) (s : Carried) (on : OnCredit p s) where
         (record { lots = lots; running = running; room = omega arith; otherLabel = other; size = both .1; sample = sym asked-so; counts = counts })
 
   -- the answers of the code
-  module _ (label N : ℕ) (may : Bool) (tested : may ≡ mayFollow 1 (s .newest) label N) where
+  module _ (label N : ℕ) (may : Bool) (tested : may ≡ mayFollow 1 (s .above) label N) where
     pub lot-refused : (d D : ℕ) → not may ≡ true → LotGives p s label N d D Fails
     lot-refused d D fails = lot-given label N d D _ _ refl refl false (rw (sym tested ∙ not-true may fails))
 
     module _ (fits : not may ≡ false) where
-      follows : mayFollow 1 (s .newest) label N ≡ true
+      follows : mayFollow 1 (s .above) label N ≡ true
       follows = sym tested ∙ not-false may fits
 
       -- nothing wrong in the sample, something in all that was heard
@@ -171,28 +172,28 @@ module _ (p : Plan) (s : Carried) (on : OnCredit p s) where
       lot-missed d D none some = lot-given label N d D _ _ refl refl false
           (rw follows (simp (none, ne-eqb D 0 (λ z. some (none, z)), leb·zero)))
 
-      pub good-stands : (credit : ℕ) → credit ≡ creditAfter (s .credit) N 0
-          → LotGives p s label N 0 0 (Stands (record { credit = credit; accepted = s .accepted + N; newest = label }))
+      pub good-stands : (credit : Credit) → credit .0 ≡ creditAfter (s .credit .0) N 0
+          → LotGives p s label N 0 0 (Stands (record { credit = credit; accepted = s .accepted + N; above = label + 1 }))
       unfolding creditVerdict acceptedOf countsAgree after
       good-stands credit same = rw same (lot-given label N 0 0 1 _ refl refl true (rw (follows, leb·zero)))
 
-      module _ (d D v n : ℕ) (judged : v ≡ creditVerdict (s .credit) (eqb (p .option) 1) d) (asked : n ≡ creditSample (s .credit) N (p .a))
+      module _ (d D v n : ℕ) (judged : v ≡ creditVerdict (s .credit .0) (eqb (p .option) 1) d) (asked : n ≡ creditSample (s .credit .0) N (p .a))
           (agree : Bool) (counted : agree ≡ countsAgree v N n d D) where
         pub lot-disagrees : not agree ≡ true → LotGives p s label N d D Fails
         lot-disagrees fails = lot-given label N d D v n judged asked false (rw (follows, sym counted ∙ not-true agree fails))
 
-        pub lot-stands : not agree ≡ false → (credit accepted : ℕ) → credit ≡ creditAfter (s .credit) N d → accepted ≡ acceptedOf v N D
-            → LotGives p s label N d D (Stands (record { credit = credit; accepted = s .accepted + accepted; newest = label }))
+        pub lot-stands : not agree ≡ false → (credit : Credit) (accepted : ℕ) → credit .0 ≡ creditAfter (s .credit .0) N d → accepted ≡ acceptedOf v N D
+            → LotGives p s label N d D (Stands (record { credit = credit; accepted = s .accepted + accepted; above = label + 1 }))
         unfolding after
         lot-stands agrees credit accepted left given =
             rw (left, given) (lot-given label N d D v n judged asked true (rw (follows, sym counted ∙ not-false agree agrees)))
 
-module _ (newest label N : ℕ) (may : Bool) (tested : may ≡ mayFollow 1 newest label N) (fits : not may ≡ false) where
+module _ (above label N : ℕ) (may : Bool) (tested : may ≡ mayFollow 1 above label N) (fits : not may ≡ false) where
   pub size-least : 1 ≤ N
-  size-least = follower-size 1 newest label N (sym tested ∙ not-false may fits) .0
+  size-least = follower-size 1 above label N (sym tested ∙ not-false may fits) .0
 
   pub size-most : N ≤ largestLot
-  size-most = follower-size 1 newest label N (sym tested ∙ not-false may fits) .1
+  size-most = follower-size 1 above label N (sym tested ∙ not-false may fits) .1
 
 pub ruleset tells = (fails-as, stands-as, stands-in, entered-read)
 

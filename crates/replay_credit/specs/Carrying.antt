@@ -17,11 +17,11 @@ use Rattle.replay_credit.specs.declared.Step.the-variants.{Stands, Fails
 
 -- the figures that the numbers stand for; those foreign to the plan are zero
 unfoldable pub figuresIn : Carried → Figures
-figuresIn s = lotFigures (s .credit) noLevel (s .accepted) (s .newest)
+figuresIn s = lotFigures (s .credit .0) noLevel (s .accepted) (s .above)
 
 -- and back
 abbrev pub carriedFrom : Figures → Carried
-carriedFrom f = record { credit = f .credit .0; accepted = f .accepted; newest = f .newest }
+carriedFrom f = record { credit = f .credit; accepted = f .accepted; above = f .above }
 
 -- numbers of a credit stream that calls could have left, with a place free
 pub record OnCredit (p : Plan) (s : Carried) : Type 0 where

@@ -24,9 +24,9 @@ use rules::refusing;
 
 // What an entry of a credit stream can change.
 struct Carried {
-    credit: u32,
+    credit: Credit,
     accepted: u64,
-    newest: u64,
+    above: u64,
 }
 
 // An entry stands, and leaves these numbers; or it could not stand.
@@ -75,12 +75,12 @@ pub fn enter_lot(
     plan: Plan,
     figures: Figures,
     label: u32,
-    size: u32,
+    size: LotSize,
     wrong: u32,
     wrong_in_all: u32,
 ) -> Entered
     requires { ⌜ Reached plan figures × (plan .kind ≡ 1) ⌝ }
-    ensures { λ r. ⌜ r ≡ tried plan figures (askedLot plan figures label size wrong «wrong_in_all») ⌝ }
+    ensures { λ r. ⌜ r ≡ tried plan figures (askedLot plan figures label (size .0) wrong «wrong_in_all») ⌝ }
 {
     entered_as(
         figures,
@@ -166,12 +166,12 @@ fn take(plan: Plan, carried: Carried, read: Record) -> Step
     ensures { λ r. ⌜ enteredAs (figuresIn carried) r ≡ entered plan (figuresIn carried) 0 read ⌝ }
 {
     if replaying::is_faultless(read) {
-        return step_good_lot(plan, carried, read.a, read.b);
+        return step_good_lot(plan, carried, read.a, LotSize(read.b));
     }
     if replaying::head_of(read) != replaying::LOT {
         return step_stop(plan, carried, replaying::why_of(read), read.a);
     }
-    step_wrong_lot(plan, carried, read.a, read.b, read.c, read.d)
+    step_wrong_lot(plan, carried, read.a, LotSize(read.b), read.c, read.d)
 }
 
 // A lot.
@@ -179,12 +179,12 @@ fn step_lot(
     plan: Plan,
     carried: Carried,
     label: u32,
-    size: u32,
+    size: LotSize,
     wrong: u32,
     wrong_in_all: u32,
 ) -> Step
     requires { ⌜ OnCredit plan carried ⌝ }
-    ensures { λ r. ⌜ enteredAs (figuresIn carried) r ≡ tried plan (figuresIn carried) (askedLot plan (figuresIn carried) label size wrong «wrong_in_all») ⌝ }
+    ensures { λ r. ⌜ enteredAs (figuresIn carried) r ≡ tried plan (figuresIn carried) (askedLot plan (figuresIn carried) label (size .0) wrong «wrong_in_all») ⌝ }
 {
     if wrong == 0 {
         if wrong_in_all == 0 {
@@ -195,17 +195,18 @@ fn step_lot(
 }
 
 // A lot with nothing wrong is accepted whole, whatever the sample.
-fn step_good_lot(plan: Plan, carried: Carried, label: u32, size: u32) -> Step
+fn step_good_lot(plan: Plan, carried: Carried, label: u32, size: LotSize) -> Step
     requires { ⌜ OnCredit plan carried ⌝ }
-    ensures { λ r. ⌜ enteredAs (figuresIn carried) r ≡ tried plan (figuresIn carried) (askedLot plan (figuresIn carried) label size 0 0) ⌝ }
+    ensures { λ r. ⌜ enteredAs (figuresIn carried) r ≡ tried plan (figuresIn carried) (askedLot plan (figuresIn carried) label (size .0) 0 0) ⌝ }
 {
-    if !refusing::may_follow(limits::LEAST_LOT, carried.newest, label, size) {
+    if !refusing::may_follow(limits::LEAST_LOT, carried.above, label, size) {
         return Step::Fails;
     }
+    let credit = carried.credit;
     Step::Stands(Carried {
-        credit: Credit(carried.credit).after(LotSize(size), 0).0,
-        accepted: carried.accepted + size as u64,
-        newest: label as u64,
+        credit: credit.after(size, 0),
+        accepted: carried.accepted + size.0 as u64,
+        above: label as u64 + 1,
     })
 }
 
@@ -215,30 +216,29 @@ fn step_wrong_lot(
     plan: Plan,
     carried: Carried,
     label: u32,
-    size: u32,
+    size: LotSize,
     wrong: u32,
     wrong_in_all: u32,
 ) -> Step
     requires { ⌜ OnCredit plan carried × ((wrong ≡ 0) × («wrong_in_all» ≡ 0) → ⊥) ⌝ }
-    ensures { λ r. ⌜ enteredAs (figuresIn carried) r ≡ tried plan (figuresIn carried) (askedLot plan (figuresIn carried) label size wrong «wrong_in_all») ⌝ }
+    ensures { λ r. ⌜ enteredAs (figuresIn carried) r ≡ tried plan (figuresIn carried) (askedLot plan (figuresIn carried) label (size .0) wrong «wrong_in_all») ⌝ }
 {
-    if !refusing::may_follow(limits::LEAST_LOT, carried.newest, label, size) {
+    if !refusing::may_follow(limits::LEAST_LOT, carried.above, label, size) {
         return Step::Fails;
     }
     if wrong == 0 {
         return Step::Fails;
     }
-    let credit = Credit(carried.credit);
-    let sample = credit.sample(LotSize(size), plan.a).0;
+    let credit = carried.credit;
+    let sample = credit.sample(size, plan.a);
     let verdict = credit.verdict(plan.option == 1, wrong);
     if !refusing::do_counts_agree(verdict, size, sample, wrong, wrong_in_all) {
         return Step::Fails;
     }
     Step::Stands(Carried {
-        credit: credit.after(LotSize(size), wrong).0,
-        accepted: carried.accepted
-            + verdict::accepted_of(verdict, LotSize(size), wrong_in_all) as u64,
-        newest: label as u64,
+        credit: credit.after(size, wrong),
+        accepted: carried.accepted + verdict::accepted_of(verdict, size, wrong_in_all) as u64,
+        above: label as u64 + 1,
     })
 }
 
@@ -258,9 +258,9 @@ fn carried_from(figures: Figures) -> Carried
 {
     let credit = figures.credit;
     Carried {
-        credit: credit.0,
+        credit,
         accepted: figures.accepted,
-        newest: figures.newest,
+        above: figures.above,
     }
 }
 
@@ -268,8 +268,9 @@ fn carried_from(figures: Figures) -> Carried
 fn figures_of(carried: Carried) -> Figures
     ensures { λ r. ⌜ r ≡ figuresIn carried ⌝ }
 {
+    let credit = carried.credit;
     Figures {
-        credit: Credit(carried.credit),
+        credit,
         level: LevelState {
             level: 0,
             row: 0,
@@ -278,6 +279,6 @@ fn figures_of(carried: Carried) -> Figures
         },
         continuous: Continuous::screen(0),
         accepted: carried.accepted,
-        newest: carried.newest,
+        above: carried.above,
     }
 }

@@ -126,36 +126,36 @@ by-test false f s = refl
 
 module _ (p : Plan) (s : Carried) (run : Running p s) where
   module _ (label N d D : ℕ) where
-    lot-told : (b : Bool) → mayFollow 2 (s .newest) label N && fitsSample (p .a) (s .state .level) N d D ≡ b
-        → LotGives p s label N d D (cond b (Stands (record { state = judgedLot (hasOption p) (ltb 0 d) (s .state); accepted = s .accepted + acceptedOf (levelVerdict d) N D; newest = label })) Fails)
+    lot-told : (b : Bool) → mayFollow 2 (s .above) label N && fitsSample (p .a) (s .state .level) N d D ≡ b
+        → LotGives p s label N d D (cond b (Stands (record { state = judgedLot (hasOption p) (ltb 0 d) (s .state); accepted = s .accepted + acceptedOf (levelVerdict d) N D; above = label + 1 })) Fails)
     unfolding askedLot sameLabel sizeInRange isLevel isCredit sampleAsked verdictOn creditStep levelStep figuresIn lotFigures mayFollow fitsSample
     lot-told b test =
         let agree = counts-agree N (levelSample (p .a) (s .state .level) N) d D in
         by-test b _ _
         ∙ sym
         (lot-tried p (figuresIn s) (run .goesOn) (lots p s (run .on)) label N d D
-        ∙ rw (lot-numbers 0 (s .state) (s .accepted) (s .newest) p label N _ d D, run .on .kind, agree, test))
+        ∙ rw (lot-numbers 0 (s .state) (s .accepted) (s .above) p label N _ d D, run .on .kind, agree, test))
 
   stop-told : (why days : ℕ) (b : Bool) → isStop why days ≡ b
-      → StopGives p s why days (cond b (Stands (record { state = metStop why days (s .state); accepted = s .accepted; newest = s .newest })) Fails)
+      → StopGives p s why days (cond b (Stands (record { state = metStop why days (s .state); accepted = s .accepted; above = s .above })) Fails)
   unfolding levelStep isLevel figuresIn
   stop-told why days b test =
       by-test b _ _
       ∙ sym
       (stop-tried p (figuresIn s) (run .goesOn) why days
-      ∙ rw (stop-numbers 0 (s .state) (s .accepted) (s .newest) p why days (lots p s (run .on)), run .on .kind, test))
+      ∙ rw (stop-numbers 0 (s .state) (s .accepted) (s .above) p why days (lots p s (run .on)), run .on .kind, test))
 
   -- the answers of the code: a lot
-  module _ (label N : ℕ) (may : Bool) (tested : may ≡ mayFollow 2 (s .newest) label N) where
+  module _ (label N : ℕ) (may : Bool) (tested : may ≡ mayFollow 2 (s .above) label N) where
     pub lot-refused : (d D : ℕ) → not may ≡ true → LotGives p s label N d D Fails
     lot-refused d D fails = lot-told label N d D false (rw (sym tested ∙ not-true may fails))
 
     module _ (fits : not may ≡ false) where
-      follows : mayFollow 2 (s .newest) label N ≡ true
+      follows : mayFollow 2 (s .above) label N ≡ true
       follows = sym tested ∙ not-false may fits
 
       pub good-stands : (after : LevelState) → after ≡ judgedLot (eqb (p .option) 1) false (s .state)
-          → LotGives p s label N 0 0 (Stands (record { state = after; accepted = s .accepted + N; newest = label }))
+          → LotGives p s label N 0 0 (Stands (record { state = after; accepted = s .accepted + N; above = label + 1 }))
       unfolding hasOption fitsSample acceptedOf levelVerdict
       good-stands after judged = rw judged (lot-told label N 0 0 true (rw (follows, leb·zero)))
 
@@ -165,7 +165,7 @@ module _ (p : Plan) (s : Carried) (run : Running p s) where
 
         -- something wrong, and a sample that holds it: withheld
         pub wrong-stands : not held ≡ false → ((d ≡ 0) × (D ≡ 0) → ⊥) → (after : LevelState) → after ≡ judgedLot (eqb (p .option) 1) true (s .state)
-            → LotGives p s label N d D (Stands (record { state = after; accepted = s .accepted; newest = label }))
+            → LotGives p s label N d D (Stands (record { state = after; accepted = s .accepted; above = label + 1 }))
         unfolding hasOption fitsSample acceptedOf levelVerdict
         wrong-stands holds some after judged =
             let holding : fitsSample (p .a) (s .state .level) N d D ≡ true = sym counted ∙ not-false held holds in
@@ -179,7 +179,7 @@ module _ (p : Plan) (s : Carried) (run : Running p s) where
     stop-refused fails = stop-told why days false (sym tested ∙ not-true ok fails)
 
     pub stop-stands : not ok ≡ false → (after : LevelState) → after ≡ metStop why days (s .state)
-        → StopGives p s why days (Stands (record { state = after; accepted = s .accepted; newest = s .newest }))
+        → StopGives p s why days (Stands (record { state = after; accepted = s .accepted; above = s .above }))
     stop-stands holds after met = rw met (stop-told why days true (sym tested ∙ not-false ok holds))
 
   -- every sum is in range

@@ -20,11 +20,11 @@ use Rattle.replay_level.specs.declared.Step.the-variants.{Stands, Fails}
 
 -- the figures that the numbers stand for; those foreign to the plan are zero
 unfoldable pub figuresIn : Carried → Figures
-figuresIn s = lotFigures 0 (s .state) (s .accepted) (s .newest)
+figuresIn s = lotFigures 0 (s .state) (s .accepted) (s .above)
 
 -- and back
 abbrev pub carriedFrom : Figures → Carried
-carriedFrom f = record { state = f .level; accepted = f .accepted; newest = f .newest }
+carriedFrom f = record { state = f .level; accepted = f .accepted; above = f .above }
 
 -- numbers of a level stream that calls could have left, with a place free; and of one that goes on
 pub record OnLevel (p : Plan) (s : Carried) : Type 0 where

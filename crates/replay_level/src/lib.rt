@@ -28,7 +28,7 @@ use rules::refusing;
 struct Carried {
     state: LevelState,
     accepted: u64,
-    newest: u64,
+    above: u64,
 }
 
 // An entry stands, and leaves these numbers; or it could not stand.
@@ -77,12 +77,12 @@ pub fn enter_lot(
     plan: Plan,
     figures: Figures,
     label: u32,
-    size: u32,
+    size: LotSize,
     wrong: u32,
     wrong_in_all: u32,
 ) -> Entered
     requires { ⌜ Reached plan figures × (plan .kind ≡ 2) ⌝ }
-    ensures { λ r. ⌜ r ≡ tried plan figures (askedLot plan figures label size wrong «wrong_in_all») ⌝ }
+    ensures { λ r. ⌜ r ≡ tried plan figures (askedLot plan figures label (size .0) wrong «wrong_in_all») ⌝ }
 {
     if refusing::is_discontinued(figures) {
         return Entered {
@@ -184,12 +184,12 @@ fn take(plan: Plan, carried: Carried, read: Record) -> Step
         return Step::Fails;
     }
     if replaying::is_faultless(read) {
-        return step_good_lot(plan, carried, read.a, read.b);
+        return step_good_lot(plan, carried, read.a, LotSize(read.b));
     }
     if replaying::head_of(read) != replaying::LOT {
         return step_stop(plan, carried, replaying::why_of(read), read.a);
     }
-    step_wrong_lot(plan, carried, read.a, read.b, read.c, read.d)
+    step_wrong_lot(plan, carried, read.a, LotSize(read.b), read.c, read.d)
 }
 
 // A lot.
@@ -197,12 +197,12 @@ fn step_lot(
     plan: Plan,
     carried: Carried,
     label: u32,
-    size: u32,
+    size: LotSize,
     wrong: u32,
     wrong_in_all: u32,
 ) -> Step
     requires { ⌜ Running plan carried ⌝ }
-    ensures { λ r. ⌜ enteredAs (figuresIn carried) r ≡ tried plan (figuresIn carried) (askedLot plan (figuresIn carried) label size wrong «wrong_in_all») ⌝ }
+    ensures { λ r. ⌜ enteredAs (figuresIn carried) r ≡ tried plan (figuresIn carried) (askedLot plan (figuresIn carried) label (size .0) wrong «wrong_in_all») ⌝ }
 {
     if wrong == 0 {
         if wrong_in_all == 0 {
@@ -213,19 +213,19 @@ fn step_lot(
 }
 
 // A lot with nothing wrong is accepted whole, whatever the sample.
-fn step_good_lot(plan: Plan, carried: Carried, label: u32, size: u32) -> Step
+fn step_good_lot(plan: Plan, carried: Carried, label: u32, size: LotSize) -> Step
     requires { ⌜ Running plan carried ⌝ }
-    ensures { λ r. ⌜ enteredAs (figuresIn carried) r ≡ tried plan (figuresIn carried) (askedLot plan (figuresIn carried) label size 0 0) ⌝ }
+    ensures { λ r. ⌜ enteredAs (figuresIn carried) r ≡ tried plan (figuresIn carried) (askedLot plan (figuresIn carried) label (size .0) 0 0) ⌝ }
 {
-    if !refusing::may_follow(limits::LEAST_LEVEL_LOT, carried.newest, label, size) {
+    if !refusing::may_follow(limits::LEAST_LEVEL_LOT, carried.above, label, size) {
         return Step::Fails;
     }
     let state = carried.state;
     let after = state.judge(plan.option == 1, false);
     Step::Stands(Carried {
         state: after,
-        accepted: carried.accepted + size as u64,
-        newest: label as u64,
+        accepted: carried.accepted + size.0 as u64,
+        above: label as u64 + 1,
     })
 }
 
@@ -234,14 +234,14 @@ fn step_wrong_lot(
     plan: Plan,
     carried: Carried,
     label: u32,
-    size: u32,
+    size: LotSize,
     wrong: u32,
     wrong_in_all: u32,
 ) -> Step
     requires { ⌜ Running plan carried × ((wrong ≡ 0) × («wrong_in_all» ≡ 0) → ⊥) ⌝ }
-    ensures { λ r. ⌜ enteredAs (figuresIn carried) r ≡ tried plan (figuresIn carried) (askedLot plan (figuresIn carried) label size wrong «wrong_in_all») ⌝ }
+    ensures { λ r. ⌜ enteredAs (figuresIn carried) r ≡ tried plan (figuresIn carried) (askedLot plan (figuresIn carried) label (size .0) wrong «wrong_in_all») ⌝ }
 {
-    if !refusing::may_follow(limits::LEAST_LEVEL_LOT, carried.newest, label, size) {
+    if !refusing::may_follow(limits::LEAST_LEVEL_LOT, carried.above, label, size) {
         return Step::Fails;
     }
     let state = carried.state;
@@ -252,27 +252,27 @@ fn step_wrong_lot(
     Step::Stands(Carried {
         state: after,
         accepted: carried.accepted,
-        newest: label as u64,
+        above: label as u64 + 1,
     })
 }
 
 // What refusal 13 leaves of a lot: as many wrong in all as in the sample, which holds them. Speed: the sample itself is worked out
 // only where more is wrong than the least that any lot at this level asks for; worked out for each, a long stream of mixed lots takes 1.36 times
 // as long.
-fn fits_sample(vl: u32, severity: u32, size: u32, wrong: u32, wrong_in_all: u32) -> bool
+fn fits_sample(vl: u32, severity: u32, size: LotSize, wrong: u32, wrong_in_all: u32) -> bool
     requires { ⌜ (1 ≤ vl) × (vl ≤ 7) ⌝ }
-    ensures { λ r. ⌜ r ≡ fitsSample vl severity size wrong «wrong_in_all» ⌝ }
+    ensures { λ r. ⌜ r ≡ fitsSample vl severity (size .0) wrong «wrong_in_all» ⌝ }
 {
     if wrong_in_all != wrong {
         return false;
     }
-    if size < wrong {
+    if size.0 < wrong {
         return false;
     }
     if wrong <= tables::least_sample(vl) {
         return true;
     }
-    wrong <= tables::sample_size(vl, severity, LotSize(size)).0
+    wrong <= tables::sample_size(vl, severity, size).0
 }
 
 // A stop moves a stream on reduced.
@@ -288,7 +288,7 @@ fn step_stop(plan: Plan, carried: Carried, why: u32, days: u32) -> Step
     Step::Stands(Carried {
         state: after,
         accepted: carried.accepted,
-        newest: carried.newest,
+        above: carried.above,
     })
 }
 
@@ -299,7 +299,7 @@ fn carried_from(figures: Figures) -> Carried
     Carried {
         state,
         accepted: figures.accepted,
-        newest: figures.newest,
+        above: figures.above,
     }
 }
 
@@ -313,6 +313,6 @@ fn figures_of(carried: Carried) -> Figures
         level,
         continuous: Continuous::screen(0),
         accepted: carried.accepted,
-        newest: carried.newest,
+        above: carried.above,
     }
 }

@@ -26,27 +26,27 @@ use Rattle.replaying.proofs.Tried.{lot-record, stop-record}
 
 -- those of figures stand for them
 pub numbers-kept : (p : Plan) (f : Figures) → Left p f → isContinuous p ≡ false → (K : ℕ) (L : LevelState) → f .credit .0 ≡ K → f .level ≡ L
-    → lotFigures K L (f .accepted) (f .newest) ≡ f
+    → lotFigures K L (f .accepted) (f .above) ≡ f
 unfolding lotFigures
 numbers-kept p f left lots K L credit level = rw (← credit, ← level, ← no-continuous p f left lots)
 
-module _ (K : ℕ) (L : LevelState) (A newest : ℕ) where
+module _ (K : ℕ) (L : LevelState) (A above : ℕ) where
   -- the numbers after a lot, and after a stop
-  pub lot-numbers : (p : Plan) (label N n d D : ℕ) → stepped p (Lot label N n d D) (lotFigures K L A newest)
+  pub lot-numbers : (p : Plan) (label N n d D : ℕ) → stepped p (Lot label N n d D) (lotFigures K L A above)
       ≡ lotFigures (creditStep p (Lot label N n d D) K) (levelStep p (Lot label N n d D) L)
-      (A + acceptedOf (verdictOn p (lotFigures K L A newest) d) N D) label
+      (A + acceptedOf (verdictOn p (lotFigures K L A above) d) N D) (label + 1)
   unfolding stepped continuousStep acceptedBy isLot labelOf lotFigures
   lot-numbers p label N n d D = refl
 
   pub stop-numbers : (p : Plan) (why days : ℕ) → isContinuous p ≡ false
-      → stepped p (Stop why days) (lotFigures K L A newest) ≡ lotFigures K (levelStep p (Stop why days) L) A newest
+      → stepped p (Stop why days) (lotFigures K L A above) ≡ lotFigures K (levelStep p (Stop why days) L) A above
   unfolding stepped creditStep continuousStep acceptedBy isLot labelOf lotFigures
   stop-numbers p why days lots = simp (lots, add-zero)
 
 -- the size of a lot that may follow
-pub follower-size : (least newest label N : ℕ) → mayFollow least newest label N ≡ true → (least ≤ N) × (N ≤ largestLot)
+pub follower-size : (least above label N : ℕ) → mayFollow least above label N ≡ true → (least ≤ N) × (N ≤ largestLot)
 unfolding mayFollow
-follower-size least newest label N e = within-of least largestLot N (both-true (not (eqb label newest)) (within least largestLot N) e .1)
+follower-size least above label N e = within-of least largestLot N (both-true (not (eqb (label + 1) above)) (within least largestLot N) e .1)
 
 -- ---- records
 

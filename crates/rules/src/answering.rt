@@ -75,15 +75,15 @@ pub fn lot(
     plan: Plan,
     figures: Figures,
     after: Figures,
-    size: u32,
+    size: LotSize,
     wrong: u32,
     wrong_in_all: u32,
 ) -> Answer
-    requires { ⌜ «wrong_in_all» ≤ size ⌝ }
-    ensures { λ r. ⌜ r ≡ givesThese (verdictOn plan figures wrong) (acceptedOf (verdictOn plan figures wrong) size «wrong_in_all») (lotFigure plan after) ⌝ }
+    requires { ⌜ «wrong_in_all» ≤ size .0 ⌝ }
+    ensures { λ r. ⌜ r ≡ givesThese (verdictOn plan figures wrong) (acceptedOf (verdictOn plan figures wrong) (size .0) «wrong_in_all») (lotFigure plan after) ⌝ }
 {
     let verdict = asking::verdict(plan, figures, wrong);
-    let accepted = verdict::accepted_of(verdict, LotSize(size), wrong_in_all);
+    let accepted = verdict::accepted_of(verdict, size, wrong_in_all);
     gives(verdict, accepted, lot_figure(plan, after))
 }
 

@@ -11,21 +11,22 @@ use crate::plan;
 use model::Figures;
 use model::Plan;
 use plans::LotSize;
+use plans::SampleSize;
 use plans::continuous::Block;
 use plans::tables;
 use plans::verdict;
 
 // The sample that a lot asks for.
-pub fn sample(plan: Plan, figures: Figures, size: u32) -> u32
-    requires { ⌜ T (validPlan plan) × (isContinuous plan ≡ false) × (figures .credit .0 ≤ largestCredit) × (1 ≤ size) × (size ≤ largestLot) ⌝ }
-    ensures { λ r. ⌜ (r ≡ sampleAsked plan figures size) × (r ≤ size) ⌝ }
+pub fn sample(plan: Plan, figures: Figures, size: LotSize) -> SampleSize
+    requires { ⌜ T (validPlan plan) × (isContinuous plan ≡ false) × (figures .credit .0 ≤ largestCredit) × (1 ≤ size .0) × (size .0 ≤ largestLot) ⌝ }
+    ensures { λ r. ⌜ (r .0 ≡ sampleAsked plan figures (size .0)) × (r .0 ≤ size .0) ⌝ }
 {
     if plan.kind == plan::CREDIT {
         let credit = figures.credit;
-        return credit.sample(LotSize(size), plan.a).0;
+        return credit.sample(size, plan.a);
     }
     let level = figures.level;
-    tables::sample_size(plan.a, level.level, LotSize(size)).0
+    tables::sample_size(plan.a, level.level, size)
 }
 
 // The verdict on a lot with so many wrong in its sample.

@@ -6,7 +6,6 @@ ghost use lib.Dec.{eqb, leb};
 ghost use Rattle.plans.specs.Limits.{largestClearance, largestInterval};
 ghost use Rattle.model.specs.Figuring.{started as startedFigures, withLevel};
 use model::Figures;
-use model::NO_LABEL;
 use model::Plan;
 use plans::continuous::Continuous;
 use plans::credit::Credit;
@@ -96,6 +95,6 @@ fn with_level(level: LevelState) -> Figures
         level,
         continuous: Continuous::screen(0),
         accepted: 0,
-        newest: NO_LABEL,
+        above: 0,
     }
 }

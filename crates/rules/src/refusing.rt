@@ -18,15 +18,24 @@ use crate::plan;
 use model::Figures;
 use model::Plan;
 use model::sizes::MOST_RECORDS;
+use plans::LotSize;
+use plans::SampleSize;
 use plans::level;
 use plans::limits;
 use plans::stops;
 use plans::verdict;
 
 // The refusal of a lot, up to 12.
-pub fn lot(plan: Plan, figures: Figures, count: usize, label: u32, size: u32, sample: u32) -> u32
+pub fn lot(
+    plan: Plan,
+    figures: Figures,
+    count: usize,
+    label: u32,
+    size: LotSize,
+    sample: SampleSize,
+) -> u32
     requires { ⌜ T (validPlan plan) × FiguresWithin count figures × (count ≤ mostRecords) ⌝ }
-    ensures { λ r. ⌜ LotUpToLast plan figures count label size sample r ⌝ }
+    ensures { λ r. ⌜ LotUpToLast plan figures count label (size .0) (sample .0) r ⌝ }
 {
     if plan.kind == plan::CONTINUOUS {
         return 7;
@@ -37,13 +46,13 @@ pub fn lot(plan: Plan, figures: Figures, count: usize, label: u32, size: u32, sa
     if MOST_RECORDS <= count {
         return 9;
     }
-    if is_same_label(figures.newest, label) {
+    if is_same_label(figures.above, label) {
         return 10;
     }
     if !is_size(plan, size) {
         return 11;
     }
-    if sample != asking::sample(plan, figures, size) {
+    if sample.0 != asking::sample(plan, figures, size).0 {
         return 12;
     }
     0
@@ -104,8 +113,8 @@ pub fn stop(figures: Figures, count: usize) -> u32
 }
 
 // The refusal of an ask.
-pub fn ask(plan: Plan, figures: Figures, size: u32) -> u32
-    ensures { λ r. ⌜ r ≡ firstOf (askRefusals plan figures size) ⌝ }
+pub fn ask(plan: Plan, figures: Figures, size: LotSize) -> u32
+    ensures { λ r. ⌜ r ≡ firstOf (askRefusals plan figures (size .0)) ⌝ }
 {
     if plan.kind == plan::CONTINUOUS {
         return 7;
@@ -128,15 +137,15 @@ pub fn is_discontinued(figures: Figures) -> bool
 }
 
 // 10: the newest standing lot's label again.
-fn is_same_label(newest: u64, label: u32) -> bool
-    ensures { λ r. ⌜ r ≡ eqb label newest ⌝ }
+fn is_same_label(above: u64, label: u32) -> bool
+    ensures { λ r. ⌜ r ≡ eqb (label + 1) above ⌝ }
 {
-    label as u64 == newest
+    label as u64 + 1 == above
 }
 
 // What 11 leaves.
-fn is_size(plan: Plan, size: u32) -> bool
-    ensures { λ r. ⌜ r ≡ sizeInRange plan size ⌝ }
+fn is_size(plan: Plan, size: LotSize) -> bool
+    ensures { λ r. ⌜ r ≡ sizeInRange plan (size .0) ⌝ }
 {
     if plan.kind == plan::LEVEL {
         return is_size_from(limits::LEAST_LEVEL_LOT, size);
@@ -145,17 +154,17 @@ fn is_size(plan: Plan, size: u32) -> bool
 }
 
 // The same on a stream whose lots have at least so many detections.
-fn is_size_from(least: u32, size: u32) -> bool
-    ensures { λ r. ⌜ r ≡ within least largestLot size ⌝ }
+fn is_size_from(least: u32, size: LotSize) -> bool
+    ensures { λ r. ⌜ r ≡ within least largestLot (size .0) ⌝ }
 {
-    plan::within(least, limits::LARGEST_LOT, size)
+    plan::within(least, limits::LARGEST_LOT, size.0)
 }
 
 // What 10 and 11 leave of a lot on a stream whose lots have at least so many detections.
-pub fn may_follow(least: u32, newest: u64, label: u32, size: u32) -> bool
-    ensures { λ r. ⌜ r ≡ mayFollow least newest label size ⌝ }
+pub fn may_follow(least: u32, above: u64, label: u32, size: LotSize) -> bool
+    ensures { λ r. ⌜ r ≡ mayFollow least above label (size .0) ⌝ }
 {
-    if is_same_label(newest, label) {
+    if is_same_label(above, label) {
         return false;
     }
     is_size_from(least, size)
@@ -182,11 +191,17 @@ pub fn is_stop(why: u32, days: u32) -> bool
 }
 
 // Whether the counts of a lot agree: what refusal 13 leaves.
-pub fn do_counts_agree(verdict: u32, size: u32, sample: u32, wrong: u32, wrong_in_all: u32) -> bool
-    requires { ⌜ (sample ≤ size) × (size ≤ largestLot) ⌝ }
-    ensures { λ r. ⌜ r ≡ countsAgree verdict size sample wrong «wrong_in_all» ⌝ }
+pub fn do_counts_agree(
+    verdict: u32,
+    size: LotSize,
+    sample: SampleSize,
+    wrong: u32,
+    wrong_in_all: u32,
+) -> bool
+    requires { ⌜ (sample .0 ≤ size .0) × (size .0 ≤ largestLot) ⌝ }
+    ensures { λ r. ⌜ r ≡ countsAgree verdict (size .0) (sample .0) wrong «wrong_in_all» ⌝ }
 {
-    if sample < wrong {
+    if sample.0 < wrong {
         return false;
     }
     if is_none_missed(wrong, wrong_in_all) {
@@ -206,12 +221,18 @@ fn is_none_missed(wrong: u32, wrong_in_all: u32) -> bool
 }
 
 // The range of all that was found wrong, by the verdict.
-fn is_by_verdict(verdict: u32, size: u32, sample: u32, wrong: u32, wrong_in_all: u32) -> bool
-    requires { ⌜ (wrong ≤ sample) × (sample ≤ size) × (size ≤ largestLot) ⌝ }
-    ensures { λ r. ⌜ r ≡ (not (eqb verdict lotHeard) || within wrong (size - sample + wrong) «wrong_in_all») && (not (eqb verdict lotWithheld) || eqb «wrong_in_all» wrong) ⌝ }
+fn is_by_verdict(
+    verdict: u32,
+    size: LotSize,
+    sample: SampleSize,
+    wrong: u32,
+    wrong_in_all: u32,
+) -> bool
+    requires { ⌜ (wrong ≤ sample .0) × (sample .0 ≤ size .0) × (size .0 ≤ largestLot) ⌝ }
+    ensures { λ r. ⌜ r ≡ (not (eqb verdict lotHeard) || within wrong (size .0 - sample .0 + wrong) «wrong_in_all») && (not (eqb verdict lotWithheld) || eqb «wrong_in_all» wrong) ⌝ }
 {
     if verdict == verdict::HEARD {
-        return plan::within(wrong, size - sample + wrong, wrong_in_all);
+        return plan::within(wrong, size.0 - sample.0 + wrong, wrong_in_all);
     }
     if verdict == verdict::WITHHELD {
         return wrong_in_all == wrong;

@@ -7,4 +7,4 @@ use Rattle.replay_credit.proofs.step_good_lot.Tie as tie
 pub step-good-lot-spec : {M : Type 1} → statement M
 step-good-lot-spec =
     tie.close
-    (tie.spec (λ c κs. search needs) (λ c. search steps) (λ c κs. search steps) (λ c. search steps) (λ c. search steps))
+    (tie.spec (λ c κs. search needs) (λ c. search steps) (λ c κs. search steps) (λ c. search needs) (λ c. search steps) (λ c. search needs) (λ c. search steps))

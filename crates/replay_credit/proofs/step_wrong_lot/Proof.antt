@@ -10,7 +10,7 @@ accepted-of-requires : tie.Need-accepted-of-requires
 accepted-of-requires c κs =
     let counted = c .before .before in
     let drawn = counted .before .before .before in
-    let lot = drawn .before .before in
+    let lot = drawn .before .before .before in
     wrong-at-most _ _ (lot .before .before .pre .0) _ _ _ _ _ _ (counted .before .verdict .ensures) (drawn .sample .ensures .0)
     (sym (lot .before .may-follow .ensures) ∙ not-false _ (lot .if1 .left))
     (sym (counted .do-counts-agree .ensures) ∙ not-false _ (c .before .if3 .left))
@@ -19,4 +19,4 @@ pub step-wrong-lot-spec : {M : Type 1} → statement M
 step-wrong-lot-spec =
     tie.close
     (tie.spec (λ c κs. search needs) (λ c. search steps) (λ c. search steps) (λ c κs. search steps) (λ c κs. search needs) (λ c κs. search steps)
-    (λ c. search steps) (λ c κs. search steps) accepted-of-requires (λ c. search needs) (λ c. search steps) (λ c. search steps))
+    (λ c. search steps) (λ c κs. search steps) accepted-of-requires (λ c. search needs) (λ c. search steps) (λ c. search needs) (λ c. search steps))

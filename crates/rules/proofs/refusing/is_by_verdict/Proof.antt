@@ -5,7 +5,7 @@ use Rattle.rules.proofs.refusing.is_by_verdict.Statement.{statement}
 use Rattle.rules.proofs.refusing.is_by_verdict.Tie as tie
 
 returns : tie.Need-returns
-returns c = simp (c .before .if1 .taken, ← c .within .ensures, and-true)
+returns c = simp (c .before .before .before .if1 .taken, ← c .within .ensures, and-true)
 
 returns-2 : tie.Need-returns-2
 returns-2 c = simp (c .if2 .taken)
