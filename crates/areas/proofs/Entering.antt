@@ -18,7 +18,8 @@ use Rattle.model.specs.Sizes.{mostRecords}
 use Rattle.model.specs.Stations.{isContinuous, within}
 use Rattle.model.specs.Figuring.{sampleAsked, stepped}
 use Rattle.model.specs.Calls.{firstOf, entryRefusals, isFull, accepts, refused, entryAnswer}
-use Rattle.model.specs.Area.{recordOf, onArea}
+use Rattle.model.specs.Records.{recordBytes, recordOf}
+use Rattle.model.specs.Area.{onArea}
 use Rattle.model.proofs.Allowed.{passed}
 use Rattle.model.proofs.Booleans.{neither-of}
 use Rattle.rules.specs.Refusing.{earlier, UpToLast}
@@ -176,5 +177,5 @@ module _ {area : List ℕ} {s : Standing} {es : List Entry} (at : OpenedAt 0 are
 
         -- what it gives, and the area after it
         pub entered-here : {a : Answer} {after : List ℕ} → x .sound ≡ true → a ≡ entryAnswer (s .plan) (s .figures) e
-            → after ≡ rewritten (s .count) (recordOf e) (s .count + 1) (x .figures) area → leaves a after ≡ onArea area (Enter e)
+            → after ≡ rewritten (s .plan) (s .count) (recordBytes (recordOf e)) (s .count + 1) (x .figures) area → leaves a after ≡ onArea area (Enter e)
         entered-here holds given left = entered at e refl (none-refused holds) (figures-after holds) given left

@@ -7,6 +7,7 @@ use native.Mathlib.Omega.{arith}
 use lib.Dec.{T, eqb}
 use borrow.Author.Tests.{ne-eqb, not-false}
 use lib.ListN.{length}
+use Rattle.little.specs.Little.{written}
 use Rattle.plans.specs.Limits.{largestLot}
 use Rattle.plans.specs.Verdicts.{acceptedOf}
 use Rattle.plans.specs.Continuous.{afterBlock}
@@ -18,9 +19,10 @@ use Rattle.model.specs.declared.Call.the-variants.{Open, Enter, Back, Ask, Read
 use Rattle.model.specs.declared.Figures.{Figures}
 use Rattle.model.specs.declared.Answer.{Answer}
 use Rattle.model.specs.Sizes.{recordLength, mostRecords}
-use Rattle.records.specs.Records.{recordIn, recordAt, LevelFits}
+use Rattle.records.specs.Records.{recordAt, LevelFits}
 use Rattle.model.specs.Stations.{Station, unopened, opened, validPlan, isContinuous}
-use Rattle.model.specs.Figuring.{sampleAsked, verdictOn, acceptedBy, stepped, figuresOf}
+use Rattle.model.specs.Figuring.{sampleAsked, verdictOn, acceptedBy, started, stepped, figuresOf}
+use Rattle.model.specs.Records.{recordBytes, recordIn, recordOf}
 use Rattle.model.specs.Calls.{
   firstOf,
   entryRefusals,
@@ -36,17 +38,16 @@ use Rattle.model.specs.Calls.{
   answerOf,
   withoutNewest,
   changed,
-  kindOf,
   sizeInRange,
 }
-use Rattle.model.specs.Area.{zeros, recordBytes, recordOf, recordsOf, areaOf, holds, reading, AreaOutcome, onArea}
+use Rattle.model.specs.Area.{zeros, headerOf, recordsOf, areaOf, holds, reading, AreaOutcome, onArea}
 use Rattle.model.proofs.Allowed.{room-for, passed}
 use Rattle.model.proofs.FigureBounds.{lot-size-range, stepped-within}
 use Rattle.model.proofs.AreaReading.{area-of-reading, part-record, records-in}
 use Rattle.model.proofs.Keeping.{accepted-station, accepted-answer, valid-opens}
 use Rattle.model.proofs.OnArea.{on-station, refused-station}
 use Rattle.replay.specs.declared.Standing.{Standing}
-use Rattle.areas.specs.Written.{openedWith, rewritten}
+use Rattle.areas.specs.Written.{rewritten}
 use Rattle.areas.proofs.Rewriting.{entered-area, taken-area, opened-area}
 use Rattle.areas.proofs.OnReading.{OpenedAt, read-plan, read-area, read-figures, read-count, level-fits}
 
@@ -78,8 +79,8 @@ module _ (area : List ℕ) (plan : Plan) {r : Answer} where
       by-refusal area (Open plan) r unopened 5 e (rw (sym same ∙ fails)) (λ z. omega arith) given
 
   pub open-made : {after : List ℕ} → reading area ≡ holds unopened → T (validPlan plan) → r ≡ gives 0 0 0
-      → after ≡ openedWith plan area → leaves r after ≡ onArea area (Open plan)
-  unfolding answerOf changed openedWith
+      → after ≡ written 0 (headerOf plan 0 (started plan)) area → leaves r after ≡ onArea area (Open plan)
+  unfolding answerOf changed
   open-made {after} e valid given left =
       by-call area (Open plan) r unopened after e (valid-opens plan valid) given
       (left ∙ rw (sym (area-of-reading area unopened e .1)) (opened-area plan))
@@ -103,7 +104,7 @@ module _ {area : List ℕ} {s : Standing} {es : List Entry} (at : OpenedAt 0 are
   pub entered : (e : Entry) {n : ℕ} {r : Answer} {after : List ℕ} {g : Figures}
       → n ≡ firstOf (entryRefusals (s .plan) (s .figures) (s .count) e) → n ≡ 0
       → g ≡ stepped (s .plan) e (s .figures) → r ≡ entryAnswer (s .plan) (s .figures) e
-      → after ≡ rewritten (s .count) (recordOf e) (s .count + 1) g area → leaves r after ≡ onArea area (Enter e)
+      → after ≡ rewritten (s .plan) (s .count) (recordBytes (recordOf e)) (s .count + 1) g area → leaves r after ≡ onArea area (Enter e)
   unfolding answerOf changed figuresOf
   entered e {n} {r} {after} same none stepped-on given left =
       by-call area (Enter e) r (opened (s .plan) es) after (at .reads) (sym (refusal-of e n same) ∙ none)
@@ -172,34 +173,25 @@ unfolding refusalOf refusals firstOf
 back-none {area} {s} {es} at {r} none given =
     by-refusal area Back r (opened (s .plan) es) 16 (at .reads) (rw (sym (at .counted) ∙ none)) (λ z. omega arith) given
 
-kind-read : (e : Entry) → recordIn (recordOf e) .kind ≡ kindOf e
-unfolding recordIn recordOf recordBytes kindOf
-kind-read (Lot label N n d D) = refl
-kind-read (Run h w) = refl
-kind-read (Block q w) = refl
-kind-read (Stop why days) = refl
-
 -- the newest record of an area
 newest-record : (p : Plan) (e : Entry) (es : List Entry) → length es < mostRecords
-    → recordIn (recordAt (areaOf (opened p (e ∷ es))) (length es)) .kind ≡ kindOf e
-unfolding recordAt recordsOf
+    → recordIn (recordAt (areaOf (opened p (e ∷ es))) (length es)) .kind ≡ recordOf e .kind
+unfolding recordAt recordsOf recordIn recordBytes
 newest-record p e es room =
     let rest : List ℕ = zeros (recordLength * (mostRecords - length (e ∷ es))) in
-    rw
-    (records-in p (e ∷ es) (omega arith), append-assoc (recordsOf es) (recordOf e) rest, part-record e es rest)
-    (kind-read e)
+    rw (records-in p (e ∷ es) (omega arith), append-assoc (recordsOf es) (recordBytes (recordOf e)) rest, part-record e es rest)
 
 pub back-taken : {area : List ℕ} {s : Standing} {es : List Entry} → OpenedAt 1 area s es
     → {last kind : ℕ} {r : Answer} {after : List ℕ} → (s .count ≡ 0 → ⊥) → last ≡ s .count - 1
     → kind ≡ recordIn (recordAt area last) .kind
-    → r ≡ gives kind 0 0 → after ≡ rewritten last (zeros recordLength) last (s .figures) area
+    → r ≡ gives kind 0 0 → after ≡ rewritten (s .plan) last (zeros recordLength) last (s .figures) area
     → leaves r after ≡ onArea area Back
 unfolding refusalOf refusals firstOf answerOf changed newestKind withoutNewest
 back-taken {area} {s} {es = []} at {last} {kind} {r} {after} some ended read given left = absurd (some (at .counted))
 back-taken {area} {s} {es = e ∷ es} at {last} {kind} {r} {after} some ended read given left =
     let ends : last ≡ length es = omega (arith, at .counted) in
     let room : length es < mostRecords = omega (arith, read-count at, at .counted) in
-    let told : kind ≡ kindOf e = read ∙ rw (ends, read-area at) (newest-record (s .plan) e es room) in
+    let told : kind ≡ recordOf e .kind = read ∙ rw (ends, read-area at) (newest-record (s .plan) e es room) in
     by-call area Back r (opened (s .plan) (e ∷ es)) after (at .reads) (rw (ne-eqb (suc (length es)) 0 (λ z. omega arith)))
     (given ∙ ap (λ (k : ℕ). gives k 0 0) told)
     (left ∙ rw (ends, at .brought, read-area at) (taken-area (s .plan) e es room))

@@ -19,17 +19,18 @@ use Rattle.model.specs.declared.Call.the-variants.{Open, Enter, Back, Ask, Read
 use Rattle.model.specs.declared.Answer.{Answer}
 use Rattle.model.specs.Sizes.{recordLength, mostRecords, streams, storeLength, startOf}
 use Rattle.model.specs.Stations.{unopened, validPlan, isContinuous}
-use Rattle.model.specs.Figuring.{sampleAsked}
+use Rattle.model.specs.Figuring.{started, sampleAsked}
+use Rattle.model.specs.Records.{recordIn}
 use Rattle.model.specs.FigureBounds.{FiguresWithin}
 use Rattle.model.specs.Calls.{refused, gives, refusalOf, refusals, firstOf, askRefusals, readFigure}
-use Rattle.model.specs.Area.{zeros}
+use Rattle.model.specs.Area.{zeros, headerOf}
 use Rattle.model.specs.Store.{areaAt, onStore}
 use Rattle.model.specs.Claims.{on}
 use Rattle.model.proofs.Booleans.{of-holds}
 use Rattle.rules.proofs.Counts.{credit-within}
-use Rattle.records.specs.Records.{recordIn, recordAt}
+use Rattle.records.specs.Records.{recordAt}
 use Rattle.replay.specs.declared.Standing.{Standing}
-use Rattle.areas.specs.Written.{openedWith, rewritten}
+use Rattle.areas.specs.Written.{rewritten}
 use Rattle.areas.proofs.OnReading.{read-plan, read-figures, read-count, figures-fit}
 use Rattle.areas.proofs.Outcomes.{
   open-again,
@@ -85,7 +86,8 @@ module _ (store : List ℕ) (stream : ℕ) (s : Standing) (plan : Plan) (a : Ans
         on-kept store stream (here .whole) (here .known) (Open plan) (open-invalid _ plan (here .reads) tested (not-true valid fails) given)
 
     pub open-taken : (then : List ℕ) → not valid ≡ false → a ≡ gives 0 0 0
-        → then ≡ written (startOf stream) (openedWith plan (areaAt stream store)) store → keeps a then ≡ onStore store (on stream (Open plan))
+        → then ≡ written (startOf stream) (written 0 (headerOf plan 0 (started plan)) (areaAt stream store)) store
+        → keeps a then ≡ onStore store (on stream (Open plan))
     open-taken then holds given wrote =
         on-written store stream (here .whole) (here .known) (Open plan)
         (open-made _ plan (here .reads) (of-holds _ (sym tested ∙ not-false valid holds)) given refl) wrote
@@ -108,18 +110,19 @@ module _ (store : List ℕ) (stream : ℕ) (s : Standing) (seen : s ≡ lookedAt
   back-refused a none given = on-kept store stream (before .whole) (before .known) Back (back-none (before .at) none given)
 
   module _ (some : s .count ≡ 0 → ⊥) where
-    pub back-may : MayWrite store stream (s .count - 1) (s .figures)
+    pub back-may : MayWrite store stream (s .plan) (s .count - 1) (s .figures)
     back-may =
         record {
           whole = before .whole;
           known = before .known;
+          valid = read-plan (before .at);
           room = omega (arith, read-count (before .at), some);
           fits = figures-fit (before .at);
         }
 
     pub back-made : (kind : ℕ) (a : Answer) (then : List ℕ) → a ≡ gives kind 0 0
         → kind ≡ recordIn (recordAt (areaAt stream store) (s .count - 1)) .kind
-        → then ≡ written (startOf stream) (rewritten (s .count - 1) (zeros recordLength) (s .count - 1) (s .figures) (areaAt stream store)) store
+        → then ≡ written (startOf stream) (rewritten (s .plan) (s .count - 1) (zeros recordLength) (s .count - 1) (s .figures) (areaAt stream store)) store
         → keeps a then ≡ onStore store (on stream Back)
     back-made kind a then given read wrote =
         on-written store stream (before .whole) (before .known) Back (back-taken (before .at) some refl read given refl) wrote

@@ -22,7 +22,7 @@ use Rattle.model.specs.Sizes.{mostRecords, startOf}
 use Rattle.model.specs.Stations.{isContinuous}
 use Rattle.model.specs.Figuring.{verdictOn, stepped}
 use Rattle.model.specs.Calls.{refused, gives, firstOf, entryRefusals, entryAnswer, lotFigure}
-use Rattle.model.specs.Area.{recordBytes, recordOf}
+use Rattle.model.specs.Records.{runKind, blockKind, stopKind, recordBytes, withOne, lotRecord, recordOf}
 use Rattle.model.specs.Store.{areaAt, onStore}
 use Rattle.model.specs.Claims.{on}
 use Rattle.model.proofs.Allowed.{AllowedBlock, allowed-lot, allowed-block, allowed-stop, plan-range}
@@ -95,17 +95,18 @@ module _ {store : List ℕ} {stream : ℕ} {s : Standing} {e : Entry} {x : Enter
   after : x .figures ≡ stepped (s .plan) e (s .figures)
   after = figures-after (opened .at) e (t .told .said) (t .none) (t .room) (t .made) (not-false _ stands)
 
-  may-put : MayWrite store stream (s .count) (x .figures)
+  may-put : MayWrite store stream (s .plan) (s .count) (x .figures)
   may-put =
       record {
         whole = opened .whole;
         known = opened .known;
+        valid = read-plan (opened .at);
         room = t .room;
         fits = fits-after (opened .at) e (t .told .said) (t .none) (t .room) (t .made) (not-false _ stands);
       }
 
   put : {a : Answer} {then : List ℕ} → a ≡ entryAnswer (s .plan) (s .figures) e
-      → then ≡ written (startOf stream) (rewritten (s .count) (recordOf e) (s .count + 1) (x .figures) (areaAt stream store)) store
+      → then ≡ written (startOf stream) (rewritten (s .plan) (s .count) (recordBytes (recordOf e)) (s .count + 1) (x .figures) (areaAt stream store)) store
       → keeps a then ≡ onStore store (on stream (Enter e))
   put given wrote =
       on-written store stream (opened .whole) (opened .known) (Enter e)
@@ -140,12 +141,12 @@ module _ (store : List ℕ) (stream : ℕ) (s : Standing) (label N n r : ℕ) (s
           }
 
       module _ (stands : not (x .sound) ≡ false) where
-        pub lot-put : MayWrite store stream (s .count) (x .figures)
+        pub lot-put : MayWrite store stream (s .plan) (s .count) (x .figures)
         lot-put = may-put lot-tried stands
 
         pub lot-entered : (a : Answer) (then : List ℕ)
             → a ≡ gives (verdictOn (s .plan) (s .figures) d) (acceptedOf (verdictOn (s .plan) (s .figures) d) N D) (lotFigure (s .plan) (x .figures))
-            → then ≡ written (startOf stream) (rewritten (s .count) (recordBytes 1 0 label N d D) (s .count + 1) (x .figures) (areaAt stream store)) store
+            → then ≡ written (startOf stream) (rewritten (s .plan) (s .count) (recordBytes (lotRecord label N d D)) (s .count + 1) (x .figures) (areaAt stream store)) store
             → keeps a then ≡ onStore store (on stream (Enter (Lot label N n d D)))
         unfolding recordOf
         lot-entered a then given = put lot-tried stands (lot-answer (opened lot-tried stands .at) _ _ _ _ _ (after lot-tried stands) given)
@@ -178,7 +179,7 @@ module _ (store : List ℕ) (stream : ℕ) (s : Standing) (e : Entry) (r : ℕ) 
       pub continuous-tried : Tried store stream s e x
       continuous-tried = record { r = r; told = continuous-told; none = none; room = continuous-left .room; made = made }
 
-      pub continuous-put : not (x .sound) ≡ false → MayWrite store stream (s .count) (x .figures)
+      pub continuous-put : not (x .sound) ≡ false → MayWrite store stream (s .plan) (s .count) (x .figures)
       continuous-put = may-put continuous-tried
 
 pub flag-fits : (w : ℕ) → w ≤ 1 → Fits w8 w
@@ -191,7 +192,7 @@ module _ (store : List ℕ) (stream : ℕ) (s : Standing) (h w r : ℕ) (seen : 
 
   pub run-entered : (x : Entered) (a : Answer) (then : List ℕ) → x ≡ tried (s .plan) (s .figures) (Run h w) → not (x .sound) ≡ false
       → a ≡ gives h (x .figures .continuous .phase) 0
-      → then ≡ written (startOf stream) (rewritten (s .count) (recordBytes 2 w h 0 0 0) (s .count + 1) (x .figures) (areaAt stream store)) store
+      → then ≡ written (startOf stream) (rewritten (s .plan) (s .count) (recordBytes (withOne runKind w h)) (s .count + 1) (x .figures) (areaAt stream store)) store
       → keeps a then ≡ onStore store (on stream (Enter (Run h w)))
   unfolding recordOf
   run-entered x a then made stands given =
@@ -222,7 +223,7 @@ module _ (store : List ℕ) (stream : ℕ) (s : Standing) (q w r : ℕ) (seen : 
     pub block-entered : (a : Answer) (then : List ℕ)
         → a ≡ gives (afterBlock (s .plan .b) q (eqb w 1) (s .figures .continuous) .accepted)
         (afterBlock (s .plan .b) q (eqb w 1) (s .figures .continuous) .«hear_back») (x .figures .continuous .phase)
-        → then ≡ written (startOf stream) (rewritten (s .count) (recordBytes 3 w q 0 0 0) (s .count + 1) (x .figures) (areaAt stream store)) store
+        → then ≡ written (startOf stream) (rewritten (s .plan) (s .count) (recordBytes (withOne blockKind w q)) (s .count + 1) (x .figures) (areaAt stream store)) store
         → keeps a then ≡ onStore store (on stream (Enter (Block q w)))
     unfolding recordOf
     block-entered a then given = put block-tried stands (block-answer (opened block-tried stands .at) q w (after block-tried stands) given)
@@ -249,11 +250,11 @@ module _ (store : List ℕ) (stream : ℕ) (s : Standing) (r : ℕ) (seen : s �
         pub stop-why : Fits w8 why
         stop-why = record { fits = omega (arith, allowed-stop _ _ _ why days (none-given stop-tried stands) .last) }
 
-        pub stop-put : MayWrite store stream (s .count) (x .figures)
+        pub stop-put : MayWrite store stream (s .plan) (s .count) (x .figures)
         stop-put = may-put stop-tried stands
 
         pub stop-entered : (a : Answer) (then : List ℕ) → a ≡ gives 0 0 0
-            → then ≡ written (startOf stream) (rewritten (s .count) (recordBytes 4 why days 0 0 0) (s .count + 1) (x .figures) (areaAt stream store)) store
+            → then ≡ written (startOf stream) (rewritten (s .plan) (s .count) (recordBytes (withOne stopKind why days)) (s .count + 1) (x .figures) (areaAt stream store)) store
             → keeps a then ≡ onStore store (on stream (Enter (Stop why days)))
         unfolding recordOf
         stop-entered a then given = put stop-tried stands (stop-answer (opened stop-tried stands .at) why days given)

@@ -4,12 +4,13 @@ use Prim.Native.Nat.{ℕ, _<_, _%_, _/_}
 use mathlib.Core.Path.{_≡_}
 use mathlib.Core.Bool.{cond, not}
 use mathlib.Core.List.{List}
-use lib.Dec.{eqb, leb}
+use lib.Dec.{T, eqb, leb}
 use lib.ListN.{length}
 use Rattle.model.specs.declared.Answer.{Answer}
 use Rattle.model.specs.declared.Plan.{Plan}
 use Rattle.model.specs.declared.Figures.{Figures}
 use Rattle.model.specs.Sizes.{mostRecords, streams, storeLength}
+use Rattle.model.specs.Stations.{validPlan}
 use Rattle.model.specs.Area.{reading}
 use Rattle.model.specs.Store.{areaAt}
 use Rattle.records.specs.Records.{LevelFits}
@@ -31,11 +32,12 @@ lookedAt newest stream store =
     cond (eqb (storeRefusal (length store) stream) 0) (standingOf newest (reading (areaAt stream store)))
     (nothingStands (storeRefusal (length store) stream))
 
--- what a write in a stream's area asks: the store is whole, the stream is one of its own, an area has a place for a record with that
--- number, and the level figures are bytes
-pub record MayWrite (store : List ℕ) (stream i : ℕ) (f : Figures) : Type 0 where
+-- what a write in a stream's area asks: the store is whole, the stream is one of its own, the plan is valid, an area has a place for a
+-- record with that number, and the level figures are bytes
+pub record MayWrite (store : List ℕ) (stream : ℕ) (p : Plan) (i : ℕ) (f : Figures) : Type 0 where
   pub whole : length store ≡ storeLength
   pub known : stream < streams
+  pub valid : T (validPlan p)
   pub room : i < mostRecords
   pub fits : LevelFits (f .level)
 

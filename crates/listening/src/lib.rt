@@ -14,17 +14,20 @@ ghost use Rattle.model.specs.declared.Entry.the-variants.{Lot, Run, Block, Stop
 ghost use Rattle.model.specs.declared.Call.the-variants.{Open, Enter, Back, Ask, Read};
 ghost use Rattle.model.specs.Sizes.{recordLength, streams, storeLength, startOf};
 ghost use Rattle.model.specs.Stations.{validPlan};
-ghost use Rattle.model.specs.Area.{zeros, recordBytes};
+ghost use Rattle.model.specs.Figuring.{started};
+ghost use Rattle.model.specs.Records.{recordBytes, recordIn};
+ghost use Rattle.model.specs.Area.{zeros, headerOf};
 ghost use Rattle.model.specs.Store.{areaAt, onStore};
 ghost use Rattle.model.specs.Claims.{on};
-ghost use Rattle.records.specs.Records.{recordIn, recordAt};
-ghost use Rattle.areas.specs.Written.{openedWith, rewritten};
+ghost use Rattle.records.specs.Records.{recordAt};
+ghost use Rattle.areas.specs.Written.{rewritten};
 ghost use Rattle.listening.specs.Handed.{planOf, storeRefusal, lookedAt, MayWrite};
 use model::Answer;
 use model::Call;
 use model::Entry;
 use model::Figures;
 use model::Plan;
+use model::Record;
 use model::sizes;
 use model::sizes::STORE_LENGTH;
 use model::sizes::STREAMS;
@@ -113,18 +116,16 @@ fn enter_lot(
     }
     let after = tried.figures;
     let answer = answering::lot(plan, before, after, size, wrong, wrong_in_all);
-    put_entry(
-        store,
-        stream,
-        count,
-        records::LOT,
-        0,
-        label,
-        size.0,
-        wrong,
-        wrong_in_all,
-        after,
-    );
+    let record = Record {
+        kind: records::LOT,
+        flag: 0,
+        spare: 0,
+        a: label,
+        b: size.0,
+        c: wrong,
+        d: wrong_in_all,
+    };
+    put_entry(store, stream, plan, count, record, after);
     answer
 }
 
@@ -153,18 +154,16 @@ fn enter_run(store: &mut [u8], stream: u32, right: u32, wrong: u32) -> Answer
         return answering::refused(OUT_OF_PHASE);
     }
     let after = tried.figures;
-    put_entry(
-        store,
-        stream,
-        count,
-        records::RUN,
-        wrong as u8,
-        right,
-        0,
-        0,
-        0,
-        after,
-    );
+    let record = Record {
+        kind: records::RUN,
+        flag: wrong as u8,
+        spare: 0,
+        a: right,
+        b: 0,
+        c: 0,
+        d: 0,
+    };
+    put_entry(store, stream, plan, count, record, after);
     answering::run(after, right)
 }
 
@@ -195,18 +194,16 @@ fn enter_block(store: &mut [u8], stream: u32, heard: u32, wrong: u32) -> Answer
     }
     let after = tried.figures;
     let answer = answering::block(plan, before, after, heard, wrong);
-    put_entry(
-        store,
-        stream,
-        count,
-        records::BLOCK,
-        wrong as u8,
-        heard,
-        0,
-        0,
-        0,
-        after,
-    );
+    let record = Record {
+        kind: records::BLOCK,
+        flag: wrong as u8,
+        spare: 0,
+        a: heard,
+        b: 0,
+        c: 0,
+        d: 0,
+    };
+    put_entry(store, stream, plan, count, record, after);
     answer
 }
 
@@ -224,27 +221,26 @@ fn enter_stop(store: &mut [u8], stream: u32, why: u32, days: u32) -> Answer
     if standing.refusal != 0 {
         return answering::refused(standing.refusal);
     }
+    let plan = standing.plan;
     let count = standing.count;
     let refusal = refusing::stop(standing.figures, count);
     if refusal != 0 {
         return answering::refused(refusal);
     }
-    let tried = replay::enter_stop(standing.plan, standing.figures, why, days);
+    let tried = replay::enter_stop(plan, standing.figures, why, days);
     if !tried.sound {
         return answering::refused(OUT_OF_RANGE);
     }
-    put_entry(
-        store,
-        stream,
-        count,
-        records::STOP,
-        why as u8,
-        days,
-        0,
-        0,
-        0,
-        tried.figures,
-    );
+    let record = Record {
+        kind: records::STOP,
+        flag: why as u8,
+        spare: 0,
+        a: days,
+        b: 0,
+        c: 0,
+        d: 0,
+    };
+    put_entry(store, stream, plan, count, record, tried.figures);
     answering::gives(0, 0, 0)
 }
 
@@ -259,7 +255,13 @@ pub fn back(store: &mut [u8], stream: u32) -> Answer
     if standing.count == 0 {
         return answering::refused(16);
     }
-    let kind = take_entry(store, stream, standing.count - 1, standing.figures);
+    let kind = take_entry(
+        store,
+        stream,
+        standing.plan,
+        standing.count - 1,
+        standing.figures,
+    );
     answering::gives(kind, 0, 0)
 }
 
@@ -345,7 +347,7 @@ fn look(store: &[u8], stream: u32, newest: usize) -> Standing
 // The part of the store that starts at the stream's offset is lent on, to be opened with a plan.
 fn put_plan(store: &mut [u8], stream: u32, plan: Plan)
     requires { ⌜ (length (now store) ≡ storeLength) × (stream < streams) × T (validPlan plan) ⌝ }
-    ensures { λ _. ⌜ now (store .exit) ≡ written (startOf stream) (openedWith plan (areaAt stream (now (store .entry)))) (now (store .entry)) ⌝ }
+    ensures { λ _. ⌜ now (store .exit) ≡ written (startOf stream) (written 0 (headerOf plan 0 (started plan)) (areaAt stream (now (store .entry)))) (now (store .entry)) ⌝ }
 {
     let start = start_of(stream);
     let end = start + sizes::AREA_LENGTH;
@@ -356,41 +358,27 @@ fn put_plan(store: &mut [u8], stream: u32, plan: Plan)
 fn put_entry(
     store: &mut [u8],
     stream: u32,
+    plan: Plan,
     count: usize,
-    kind: u8,
-    flag: u8,
-    a: u32,
-    b: u32,
-    c: u32,
-    d: u32,
+    record: Record,
     figures: Figures,
 )
-    requires { ⌜ MayWrite (now store) stream count figures ⌝ }
-    ensures { λ _. ⌜ now (store .exit) ≡ written (startOf stream) (rewritten count (recordBytes kind flag a b c d) (count + 1) figures (areaAt stream (now (store .entry)))) (now (store .entry)) ⌝ }
+    requires { ⌜ MayWrite (now store) stream plan count figures ⌝ }
+    ensures { λ _. ⌜ now (store .exit) ≡ written (startOf stream) (rewritten plan count (recordBytes «record») (count + 1) figures (areaAt stream (now (store .entry)))) (now (store .entry)) ⌝ }
 {
     let start = start_of(stream);
     let end = start + sizes::AREA_LENGTH;
-    areas::put_entry(
-        &mut store[start..end],
-        count,
-        kind,
-        flag,
-        a,
-        b,
-        c,
-        d,
-        figures,
-    );
+    areas::put_entry(&mut store[start..end], plan, count, record, figures);
 }
 
 // And for one less; gives its kind.
-fn take_entry(store: &mut [u8], stream: u32, last: usize, figures: Figures) -> u32
-    requires { ⌜ MayWrite (now store) stream last figures ⌝ }
-    ensures { λ r. ⌜ (r ≡ recordIn (recordAt (areaAt stream (now (store .entry))) last) .kind) × (now (store .exit) ≡ written (startOf stream) (rewritten last (zeros recordLength) last figures (areaAt stream (now (store .entry)))) (now (store .entry))) ⌝ }
+fn take_entry(store: &mut [u8], stream: u32, plan: Plan, last: usize, figures: Figures) -> u32
+    requires { ⌜ MayWrite (now store) stream plan last figures ⌝ }
+    ensures { λ r. ⌜ (r ≡ recordIn (recordAt (areaAt stream (now (store .entry))) last) .kind) × (now (store .exit) ≡ written (startOf stream) (rewritten plan last (zeros recordLength) last figures (areaAt stream (now (store .entry)))) (now (store .entry))) ⌝ }
 {
     let start = start_of(stream);
     let end = start + sizes::AREA_LENGTH;
-    areas::take_entry(&mut store[start..end], last, figures)
+    areas::take_entry(&mut store[start..end], plan, last, figures)
 }
 
 // The refusals that come before the area is looked at: 1 for a store of another length, 2 for a stream that does not exist.

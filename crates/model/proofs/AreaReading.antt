@@ -15,28 +15,13 @@ use Rattle.model.specs.declared.Plan.{Plan}
 use Rattle.model.specs.declared.Entry.{Entry}
 use Rattle.model.specs.declared.Entry.the-variants.{Lot, Run, Block, Stop}
 use Rattle.model.specs.declared.Figures.{Figures}
+use Rattle.model.specs.declared.Record.{Record}
 use Rattle.model.specs.Sizes.{recordLength, headerLength, mostRecords, areaLength}
 use Rattle.model.specs.Stations.{Station, unopened, opened, validPlan, entryArguments, allWords}
 use Rattle.model.specs.Figuring.{figuresOf}
+use Rattle.model.specs.Records.{recordBytes, recordIn, recordOf, entryOf}
 use Rattle.model.specs.Calls.{firstOf, entryRefusals, admissible, admissibleStation}
-use Rattle.model.specs.Area.{
-  zeros,
-  planBytes,
-  figureBytes,
-  recordBytes,
-  recordOf,
-  recordsOf,
-  areaOf,
-  planIn,
-  countIn,
-  entryIn,
-  entriesIn,
-  stationIn,
-  sameBytes,
-  unsound,
-  holds,
-  reading,
-}
+use Rattle.model.specs.Area.{zeros, headerOf, recordsOf, areaOf, planIn, countIn, entriesIn, stationIn, sameBytes, unsound, holds, reading}
 use Rattle.model.proofs.Booleans.{holds-of, of-holds, both-of, both}
 use Rattle.model.proofs.Allowed.{allowed-lot, newest-of, count-within, plan-range}
 
@@ -58,25 +43,18 @@ same-bytes-eq (x ∷ xs) (y ∷ ys) t =
 
 -- ---- lengths
 
-pub length-record : (e : Entry) → length (recordOf e) ≡ recordLength
-unfolding recordOf recordBytes bytes
-length-record (Lot label N n d D) = refl
-length-record (Run h w) = refl
-length-record (Block q w) = refl
-length-record (Stop why days) = refl
+pub length-record : (r : Record) → length (recordBytes r) ≡ recordLength
+unfolding recordBytes bytes
+length-record r = refl
 
 pub length-records : (es : List Entry) → length (recordsOf es) ≡ recordLength * length es
 unfolding recordsOf
 length-records [] = refl
-length-records (e ∷ es) = simp (length-append, length-records es, length-record e) (omega arith)
+length-records (e ∷ es) = simp (length-append, length-records es, length-record (recordOf e)) (omega arith)
 
-pub length-plan-bytes : (p : Plan) (count : ℕ) → length (planBytes p count) ≡ 16
-unfolding planBytes bytes
-length-plan-bytes p count = refl
-
-pub length-figure-bytes : (f : Figures) → length (figureBytes f) ≡ 32
-unfolding figureBytes bytes
-length-figure-bytes f = refl
+pub length-header : (p : Plan) (count : ℕ) (f : Figures) → length (headerOf p count f) ≡ headerLength
+unfolding headerOf bytes
+length-header p count f = refl
 
 pub length-unopened : length (areaOf unopened) ≡ areaLength
 unfolding areaOf
@@ -84,14 +62,13 @@ length-unopened = length-replicate {A = ℕ} areaLength 0
 
 pub length-opened : (p : Plan) (es : List Entry) → length es ≤ mostRecords → length (areaOf (opened p es)) ≡ areaLength
 unfolding areaOf
-length-opened p es h =
-    simp (length-append, length-plan-bytes, length-figure-bytes, length-records, length-replicate) (omega arith)
+length-opened p es h = simp (length-append, length-header, length-records, length-replicate) (omega arith)
 
 -- ---- the header
 
 module _ (p : Plan) (es : List Entry) (valid : T (validPlan p)) (sound : T (admissible p es)) where
   pub plan-read : planIn (areaOf (opened p es)) ≡ p
-  unfolding planIn areaOf planBytes part bytes
+  unfolding planIn areaOf headerOf part bytes
   plan-read =
       let range = plan-range p valid in
       let a : value (bytes 4 (p .a)) ≡ p .a = value-bytes 4 (omega arith) in
@@ -99,7 +76,7 @@ module _ (p : Plan) (es : List Entry) (valid : T (validPlan p)) (sound : T (admi
       λ i. record { kind = p .kind; option = p .option; a = a i; b = b i }
 
   pub count-read : countIn (areaOf (opened p es)) ≡ length es
-  unfolding countIn areaOf planBytes part bytes
+  unfolding countIn areaOf headerOf part bytes
   count-read = value-bytes 2 (omega (arith, count-within p es sound))
 
 -- ---- the records
@@ -112,8 +89,8 @@ words-of n ns t =
     (value-bytes 4 (ltb→lt n (2 ^ 32) (parts .0)), parts .1)
 
 pub entry-read : (p : Plan) (f : Figures) (count : ℕ) (e : Entry) → firstOf (entryRefusals p f count e) ≡ 0
-    → T (allWords (entryArguments e)) → entryIn p f (recordOf e) ≡ e
-unfolding entryIn recordOf recordBytes part bytes entryArguments
+    → T (allWords (entryArguments e)) → entryOf p f (recordIn (recordBytes (recordOf e))) ≡ e
+unfolding entryOf recordIn recordOf recordBytes part bytes entryArguments
 entry-read p f count (Lot label N n d D) h t =
     let first = words-of label (N ∷ n ∷ d ∷ D ∷ []) t in
     let second = words-of N (n ∷ d ∷ D ∷ []) (first .1) in
@@ -128,10 +105,10 @@ entry-read p f count (Stop why days) e t = ap (λ (n : ℕ). Stop why n) (words-
 
 -- the newest of the records is read where it stands
 pub part-record : (e : Entry) (es : List Entry) (rest : List ℕ)
-    → part (recordLength * length es) recordLength (recordsOf es ++ (recordOf e ++ rest)) ≡ recordOf e
+    → part (recordLength * length es) recordLength (recordsOf es ++ (recordBytes (recordOf e) ++ rest)) ≡ recordBytes (recordOf e)
 unfolding part
 part-record e es rest =
-    rw (drop-at (recordsOf es) (recordOf e ++ rest) _ (length-records es)) (take-at (recordOf e) rest _ (length-record e))
+    rw (drop-at (recordsOf es) _ _ (length-records es)) (take-at (recordBytes (recordOf e)) rest _ (length-record (recordOf e)))
 
 pub entries-read : (p : Plan) (es : List Entry) (rest : List ℕ) → T (admissible p es)
     → entriesIn p (recordsOf es ++ rest) (length es) ≡ es
@@ -139,8 +116,8 @@ unfolding entriesIn recordsOf
 entries-read p [] rest t = refl
 entries-read p (e ∷ es) rest t =
     let newest = newest-of p e es t in
-    let others = entries-read p es (recordOf e ++ rest) (newest .others) in
-    rw (append-assoc (recordsOf es) (recordOf e) rest, others, part-record e es rest)
+    let others = entries-read p es (recordBytes (recordOf e) ++ rest) (newest .others) in
+    rw (append-assoc (recordsOf es) (recordBytes (recordOf e)) rest, others, part-record e es rest)
     (ap (λ (e : Entry). e ∷ es) (entry-read p (figuresOf p es) (length es) e (newest .accepted) (newest .words)))
 
 -- ---- the whole area
@@ -149,13 +126,13 @@ entries-read p (e ∷ es) rest t =
 pub records-in : (p : Plan) (es : List Entry) → length es ≤ mostRecords
     → part headerLength (recordLength * mostRecords) (areaOf (opened p es))
     ≡ recordsOf es ++ zeros (recordLength * (mostRecords - length es))
-unfolding part areaOf planBytes figureBytes bytes
+unfolding part areaOf headerOf bytes
 records-in p es h =
     take-all (recordLength * mostRecords) (recordsOf es ++ zeros (recordLength * (mostRecords - length es)))
     (simp (length-append, length-records, length-replicate) (omega arith))
 
 kind-read : (p : Plan) (es : List Entry) → getD (areaOf (opened p es)) 0 0 ≡ p .kind
-unfolding areaOf planBytes
+unfolding areaOf headerOf
 kind-read p es = refl
 
 opened-read : (p : Plan) (es : List Entry) → T (validPlan p) → T (admissible p es)

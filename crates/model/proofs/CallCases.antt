@@ -46,6 +46,7 @@ use Rattle.model.specs.Figuring.{
   stepped,
   figuresOf,
 }
+use Rattle.model.specs.Records.{recordBytes, recordIn, recordOf, entryOf}
 use Rattle.model.specs.Calls.{
   firstOf,
   isDiscontinued,
@@ -61,7 +62,6 @@ use Rattle.model.specs.Calls.{
   lotFigure,
   readFigure,
   entryAnswer,
-  kindOf,
   newestKind,
   answerOf,
   withoutNewest,
@@ -71,15 +71,11 @@ use Rattle.model.specs.Calls.{
   admissibleStation,
 }
 use Rattle.model.specs.Area.{
-  planBytes,
-  figureBytes,
-  recordBytes,
-  recordOf,
+  headerOf,
   recordsOf,
   areaOf,
   planIn,
   countIn,
-  entryIn,
   entriesIn,
   stationIn,
   sameBytes,
@@ -122,8 +118,8 @@ unfolding
     isCredit isLevel isContinuous hasOption within validPlan entryArguments allWords
     noLevel started sampleAsked verdictOn acceptedBy creditStep levelStep continuousStep isLot labelOf stepped figuresOf
     firstOf isDiscontinued isFull sameLabel sizeInRange countsAgree entryRefusals accepts askRefusals refusals refusalOf lotFigure readFigure
-    entryAnswer kindOf newestKind answerOf withoutNewest changed call admissible admissibleStation
-    planBytes figureBytes recordBytes recordOf recordsOf areaOf planIn countIn entryIn entriesIn stationIn sameBytes
+    entryAnswer newestKind answerOf withoutNewest changed call admissible admissibleStation
+    recordBytes recordIn recordOf entryOf headerOf recordsOf areaOf planIn countIn entriesIn stationIn sameBytes
     reading onArea fresh areaAt onStream onStore storeAfter answersTo onAll callsOf answersOf
     frameCase creditCase levelCase strictCase continuousCase acceptedLots reducedCase wrongLots takenBack discontinuedCase stationAnswers notPermitted fiveBeatTen agreedCase creditEdges continuousEdges
     creditArea levelArea continuousArea

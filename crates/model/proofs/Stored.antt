@@ -11,7 +11,7 @@ use Rattle.model.specs.declared.Entry.{Entry}
 use Rattle.model.specs.Stations.{opened, validPlan}
 use Rattle.model.specs.Figuring.{noLevel, figuresOf}
 use Rattle.model.specs.Calls.{admissible}
-use Rattle.model.specs.Area.{planBytes, figureBytes, areaOf}
+use Rattle.model.specs.Area.{headerOf, areaOf}
 use Rattle.model.specs.Claims.{FiguresBackward}
 use Rattle.model.proofs.Backward.{credit-backward, window-backward, level-foreign, all-continuous-backward}
 use Rattle.model.proofs.FigureBounds.{figures-within}
@@ -20,7 +20,7 @@ use Rattle.model.proofs.Allowed.{count-within}
 -- the first 48 bytes are computed, so that each figure is found at its offset
 pub figures-backward : (p : Plan) (es : List Entry) → T (validPlan p) → T (admissible p es)
     → FiguresBackward p es (areaOf (opened p es))
-unfolding areaOf planBytes figureBytes bytes part noLevel
+unfolding areaOf headerOf bytes part noLevel
 figures-backward p es valid ok =
     let within = figures-within p es valid ok in
     let most = count-within p es ok in

@@ -7,52 +7,49 @@ use lib.ListN.{length, getD, replicate}
 use Rattle.little.specs.Little.{bytes, value, part}
 use Rattle.model.specs.declared.Plan.{Plan}
 use Rattle.model.specs.declared.Entry.{Entry}
-use Rattle.model.specs.declared.Entry.the-variants.{Lot, Run, Block, Stop}
 use Rattle.model.specs.declared.Figures.{Figures}
 use Rattle.model.specs.declared.Call.{Call}
 use Rattle.model.specs.declared.Answer.{Answer}
 use Rattle.model.specs.Sizes.{recordLength, headerLength, mostRecords, areaLength}
 use Rattle.model.specs.Stations.{Station, unopened, opened}
-use Rattle.model.specs.Figuring.{sampleAsked, figuresOf}
+use Rattle.model.specs.Figuring.{figuresOf}
+use Rattle.model.specs.Records.{byte, recordBytes, recordIn, recordOf, entryOf}
 use Rattle.model.specs.Calls.{call, refused, admissibleStation}
 
 abbrev pub zeros : ℕ → List ℕ
 zeros n = replicate n 0
 
--- bytes 0 to 15: kind, option, count of standing records, A, B; the rest unused
-unfoldable pub planBytes : Plan → ℕ → List ℕ
-planBytes p count = p .kind ∷ p .option ∷ bytes 2 count ++ (bytes 4 (p .a) ++ (bytes 2 (p .b) ++ zeros 6))
-
--- bytes 16 to 47: credit; level, row, lots judged on tightened, withheld marks; screening count, phase, an unused byte, tail;
--- detections accepted; the rest unused
-unfoldable pub figureBytes : Figures → List ℕ
-figureBytes f =
-    bytes 4 (f .credit .0)
-    ++ (f .level .level ∷ f .level .row ∷ f .level .judged ∷ f .level .window
-    ∷ bytes 4 (f .continuous .count)
-    ++ (f .continuous .phase ∷ 0 ∷ bytes 2 (f .continuous .tail) ++ (bytes 8 (f .accepted) ++ zeros 8)))
-
--- a record: kind, flag, two zero bytes, four numbers
-unfoldable pub recordBytes : ℕ → ℕ → ℕ → ℕ → ℕ → ℕ → List ℕ
-recordBytes kind flag a b c d = kind ∷ flag ∷ 0 ∷ 0 ∷ bytes 4 a ++ (bytes 4 b ++ (bytes 4 c ++ bytes 4 d))
-
-unfoldable pub recordOf : Entry → List ℕ
-recordOf (Lot label N n d D) = recordBytes 1 0 label N d D
-recordOf (Run h w) = recordBytes 2 w h 0 0 0
-recordOf (Block q w) = recordBytes 3 w q 0 0 0
-recordOf (Stop why days) = recordBytes 4 why days 0 0 0
+-- the header, bytes 0 to 47, with so many standing records: each field at its offset, and zeros between
+unfoldable pub headerOf : Plan → ℕ → Figures → List ℕ
+headerOf p count f =
+    byte (p .kind)  -- 0
+    ++ byte (p .option)  -- 1
+    ++ bytes 2 count  -- 2
+    ++ bytes 4 (p .a)  -- 4
+    ++ bytes 2 (p .b)  -- 8
+    ++ zeros 6  -- 10
+    ++ bytes 4 (f .credit .0)  -- 16
+    ++ byte (f .level .level)  -- 20
+    ++ byte (f .level .row)  -- 21
+    ++ byte (f .level .judged)  -- 22, lots judged on tightened
+    ++ byte (f .level .window)  -- 23, withheld marks
+    ++ bytes 4 (f .continuous .count)  -- 24, screening count
+    ++ byte (f .continuous .phase)  -- 28
+    ++ zeros 1  -- 29
+    ++ bytes 2 (f .continuous .tail)  -- 30
+    ++ bytes 8 (f .accepted)  -- 32
+    ++ zeros 8  -- 40
 
 -- the records, oldest first
 unfoldable pub recordsOf : List Entry → List ℕ
 recordsOf [] = []
-recordsOf (e ∷ es) = recordsOf es ++ recordOf e
+recordsOf (e ∷ es) = recordsOf es ++ recordBytes (recordOf e)
 
 -- the whole area; all zero while unopened
 unfoldable pub areaOf : Station → List ℕ
 areaOf unopened = zeros areaLength
 areaOf (opened p es) =
-    planBytes p (length es)
-    ++ (figureBytes (figuresOf p es) ++ (recordsOf es ++ zeros (recordLength * (mostRecords - length es))))
+    headerOf p (length es) (figuresOf p es) ++ (recordsOf es ++ zeros (recordLength * (mostRecords - length es)))
 
 -- what an area's bytes say, whether or not they are sound
 
@@ -68,22 +65,12 @@ planIn area =
 unfoldable pub countIn : List ℕ → ℕ
 countIn area = value (part 2 2 area)
 
--- the entry in a record, after figures f. A lot's sample is in no record: it is the one that was asked
-unfoldable pub entryIn : Plan → Figures → List ℕ → Entry
-entryIn p f r =
-    let flag : ℕ = getD r 1 0 in
-    let first : ℕ = value (part 4 4 r) in
-    let N : ℕ = value (part 8 4 r) in
-    cond (eqb (getD r 0 0) 1) (Lot first N (sampleAsked p f N) (value (part 12 4 r)) (value (part 16 4 r)))
-    (cond (eqb (getD r 0 0) 2) (Run first flag)
-    (cond (eqb (getD r 0 0) 3) (Block first flag) (Stop flag first)))
-
 -- the entries in the first records of a list of records
 unfoldable pub entriesIn : Plan → List ℕ → ℕ → List Entry
 entriesIn p records zero = []
 entriesIn p records (suc i) =
     let es : List Entry = entriesIn p records i in
-    entryIn p (figuresOf p es) (part (recordLength * i) recordLength records) ∷ es
+    entryOf p (figuresOf p es) (recordIn (part (recordLength * i) recordLength records)) ∷ es
 
 unfoldable pub stationIn : List ℕ → Station
 stationIn area =

@@ -18,6 +18,7 @@ use Rattle.model.specs.declared.Answer.{Answer}
 use Rattle.model.specs.Sizes.{mostRecords}
 use Rattle.model.specs.Stations.{Station, unopened, opened, isCredit, isLevel, isContinuous, within, validPlan, allWords, entryArguments}
 use Rattle.model.specs.Figuring.{sampleAsked, verdictOn, acceptedBy, stepped, figuresOf}
+use Rattle.model.specs.Records.{recordOf}
 
 -- a refusal: it applies, and its number
 pub record Refusal : Type 0 where
@@ -140,16 +141,10 @@ entryAnswer p f (Block q w) =
     (stepped p (Block q w) f .continuous .phase)
 entryAnswer p f (Stop why days) = gives 0 0 0
 
--- a record's kind
-unfoldable pub kindOf : Entry → ℕ
-kindOf (Lot label N n d D) = 1
-kindOf (Run h w) = 2
-kindOf (Block q w) = 3
-kindOf (Stop why days) = 4
-
+-- the kind of the newest record
 unfoldable pub newestKind : List Entry → ℕ
 newestKind [] = 0
-newestKind (e ∷ es) = kindOf e
+newestKind (e ∷ es) = recordOf e .kind
 
 -- what an accepted call gives
 unfoldable pub answerOf : Station → Call → Answer

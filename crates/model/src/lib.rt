@@ -49,6 +49,18 @@ pub enum Entry {
     },
 }
 
+// A record as it stands in the bytes, whatever its kind.
+pub struct Record {
+    pub kind: u8,
+    pub flag: u8,
+    // zero in a sound store
+    pub spare: u16,
+    pub a: u32,
+    pub b: u32,
+    pub c: u32,
+    pub d: u32,
+}
+
 // The eight calls: Open, the four that enter something, Back, Ask and Read.
 pub enum Call {
     Open(Plan),

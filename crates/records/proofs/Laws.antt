@@ -1,19 +1,24 @@
 -- Parts of a list of bytes and what they hold, writes one behind the other, and tests that decide a statement.
 -- Assumes nothing.
 use mathlib.Core.Path.{_≡_, refl, sym, ap, _∙_}
-use mathlib.Core.Bool.{Bool, true, false}
+use mathlib.Core.Bool.{Bool, true, false, _&&_}
 use mathlib.Core.List.{List, [], _∷_, _++_}
 use Prim.Native.Nat.{ℕ, zero, suc, _+_, _*_, _^_, _≤_, _<_}
 use native.Mathlib.Nat.{add-zero, add-assoc}
 use native.Mathlib.Omega.{arith}
-use lib.Dec.{lit<, lit≤}
-use lib.ListN.{length, drop, getD, set, length-take, length-drop}
-use lib.Seq.{getD-take, getD-drop, drop-cons, drop-drop, take-add, ext-getD}
+use lib.Dec.{T, eqb, lit<, lit≤}
+use lib.ListN.{length, drop, getD, set, length-append, length-take, length-drop}
+use lib.Seq.{getD-take, getD-drop, drop-cons, drop-drop, take-add, take-at, drop-at, take-all, ext-getD}
+use borrow.Author.Tests.{eqb-true, eq-eqb}
 use Rattle.little.specs.Little.{bytes, value, part, written, AreBytes}
-use Rattle.little.proofs.Laws.{value-bytes, value-range, bytes-value, length-part, length-written, set-written, written-next}
+use Rattle.little.proofs.Laws.{length-bytes, value-bytes, value-range, bytes-value, length-part, length-written, set-written, written-next}
 use Rattle.model.specs.Sizes.{recordLength, headerLength, mostRecords}
-use Rattle.model.proofs.Booleans.{never-both}
-use Rattle.records.specs.Records.{recordIn, recordAt, Decides}
+use Rattle.model.specs.declared.Plan.{Plan}
+use Rattle.model.specs.Stations.{validPlan}
+use Rattle.model.specs.Records.{byte, recordIn}
+use Rattle.model.proofs.Allowed.{plan-range}
+use Rattle.model.proofs.Booleans.{both-true, never-both}
+use Rattle.records.specs.Records.{recordAt, PlanFits, Decides}
 
 -- ---- parts
 
@@ -62,6 +67,15 @@ pub part-of-byte : (at n : ℕ) (s : List ℕ) → at < length s → getD s at 0
 unfolding part
 part-of-byte at n s h e = rw (drop-cons s at 0 h, e)
 
+-- the two parts of a list
+part-front : (j : ℕ) (a b : List ℕ) → length a ≡ j → part 0 j (a ++ b) ≡ a
+unfolding part
+part-front j a b l = take-at a b j l
+
+part-back : (j k : ℕ) (a b : List ℕ) → length a ≡ j → length b ≡ k → part j k (a ++ b) ≡ b
+unfolding part
+part-back j k a b l m = rw (drop-at a b j l) (take-all k b (omega arith))
+
 -- two neighbouring parts are one
 pub part-join : (at j k : ℕ) {next : ℕ} (a b s : List ℕ) → part at j s ≡ a → next ≡ at + j → part next k s ≡ b → part at (j + k) s ≡ a ++ b
 unfolding part
@@ -99,6 +113,12 @@ record-read area at =
 
 -- ---- writes
 
+-- the numbers of a valid plan, and a count of records, fit their bytes
+pub plan-fits : (p : Plan) (count : ℕ) → T (validPlan p) → count ≤ mostRecords → PlanFits p count
+plan-fits p count valid room =
+    let range = plan-range p valid in
+    record { kinds = omega arith; options = omega arith; intervals = omega arith; counts = omega arith }
+
 -- a write, and one behind it
 pub then-written : (at : ℕ) {next : ℕ} (a b : List ℕ) (s : List ℕ) {t u : List ℕ} → t ≡ written at a s → u ≡ written next b t → next ≡ at + length a → next + length b ≤ length s → u ≡ written at (a ++ b) s
 then-written at a b s p q e fits = q ∙ rw (p, e) (written-next at a b s (omega arith))
@@ -114,10 +134,6 @@ then-set at {next} a x s {t} p e h =
 
 -- ---- tests
 
--- an answer that is yes, of what holds
-pub proven : {P : Type 0} → P → Decides true P
-proven p = record { shows = λ e. p; shown = λ q. refl }
-
 -- an answer that is no, of what does not hold
 pub refuted : {P : Type 0} → (P → ⊥) → Decides false P
 refuted nay = record { shows = λ e. absurd (never-both false e refl); shown = λ p. absurd (nay p) }
@@ -126,16 +142,53 @@ refuted nay = record { shows = λ e. absurd (never-both false e refl); shown = �
 pub decided-not : {b : Bool} {P : Type 0} → Decides b P → b ≡ false → P → ⊥
 decided-not {b} d e p = never-both b (d .shown p) e
 
--- where a part of the bytes is not what it is to be, they are not
-pub part-differs : (at m j k : ℕ) (s w : List ℕ) → j + k ≤ m → (part (at + j) k s ≡ part j k w → ⊥) → Decides false (part at m s ≡ w)
-part-differs at m j k s w h nay = refuted (λ e. nay (sym (part-part at m j k s h) ∙ ap (part j k) e))
+-- a test of whether the bytes of s from `at` on are u
+pub record Compares (b : Bool) (s : List ℕ) (at : ℕ) (u : List ℕ) : Type 0 where
+  pub decides : Decides b (part at (length u) s ≡ u)
 
--- where the number in a part is not what it is to be, they are not
-pub value-differs : (at m j k n : ℕ) (s w : List ℕ) → j + k ≤ m → n < 256 ^ k → part j k w ≡ bytes k n → (value (part (at + j) k s) ≡ n → ⊥) → Decides false (part at m s ≡ w)
-value-differs at m j k n s w h room is nay =
-    part-differs at m j k s w h (λ e. nay (ap value (e ∙ is) ∙ value-bytes k room))
+-- of a number's bytes
+pub number-compares : {x : ℕ} (at k n : ℕ) (s : List ℕ) → AreBytes s → at + k ≤ length s → n < 256 ^ k → x ≡ value (part at k s)
+    → Compares (eqb x n) s at (bytes k n)
+number-compares {x} at k n s h fits room is =
+    record {
+      decides =
+          rw length-bytes
+          (record {
+            shows = λ e. part-of-value at k n s h fits (sym is ∙ eqb-true x n e);
+            shown = λ e. eq-eqb x n (is ∙ ap value e ∙ value-bytes k room);
+          });
+    }
 
--- where a byte is not what it is to be, they are not
-pub byte-differs : (at m j n : ℕ) (s w : List ℕ) → j < m → getD w j 0 ≡ n → (getD s (at + j) 0 ≡ n → ⊥) → Decides false (part at m s ≡ w)
-byte-differs at m j n s w h is nay =
-    refuted (λ e. nay (sym (getD-part at m s j h) ∙ ap (λ (l : List ℕ). getD l j 0) e ∙ is))
+-- of one byte
+pub byte-compares : {x : ℕ} (at n : ℕ) (s : List ℕ) → at < length s → x ≡ getD s at 0 → Compares (eqb x n) s at (byte n)
+byte-compares {x} at n s h is =
+    let first : getD (part at 1 s) 0 0 ≡ getD s at 0 = getD-part at 1 s 0 (lit< tt) ∙ rw add-zero in
+    record {
+      decides =
+          record {
+            shows = λ e. part-of-byte at n s h (sym is ∙ eqb-true x n e);
+            shown = λ e. eq-eqb x n (is ∙ sym first ∙ ap (λ (l : List ℕ). getD l 0 0) e);
+          };
+    }
+
+-- of neighbouring bytes: both tests pass
+pub both-compare : {a b : Bool} {s u v : List ℕ} {at next : ℕ} → Compares a s at u → Compares b s next v → next ≡ at + length u
+    → Compares (a && b) s at (u ++ v)
+both-compare {a} {b} {s} {u} {v} {at} {next} first second e =
+    let j : ℕ = length u in
+    let k : ℕ = length v in
+    record {
+      decides =
+          rw length-append
+          (record {
+            shows =
+                λ t.
+                let both = both-true a b t in
+                part-join at j k u v s (first .decides .shows (both .0)) e (second .decides .shows (both .1));
+            shown =
+                λ t.
+                let front = sym (part-part at (j + k) 0 j s (omega arith)) ∙ ap (part 0 j) t ∙ part-front j u v refl in
+                let back = sym (part-part at (j + k) j k s (omega arith)) ∙ ap (part j k) t ∙ part-back j k u v refl refl in
+                rw (first .decides .shown (rw add-zero at front), second .decides .shown (rw e back));
+          });
+    }

@@ -3,7 +3,7 @@ use Prim.Native.Nat.{ℕ, zero, suc, _+_, _*_, _-_, _≤_, _<_}
 use mathlib.Core.Path.{_≡_, refl, sym, ap, _∙_}
 use mathlib.Core.Bool.{Bool, true, false, not}
 use borrow.Author.Tests.{not-true, not-false}
-use mathlib.Core.List.{List, _++_}
+use mathlib.Core.List.{List}
 use native.Mathlib.Omega.{arith}
 use lib.ListN.{length, getD, drop}
 use Rattle.little.specs.Little.{part, AreBytes}
@@ -13,7 +13,7 @@ use Rattle.model.specs.declared.Figures.{Figures}
 use Rattle.model.specs.Sizes.{areaLength, headerLength, recordLength, mostRecords}
 use Rattle.model.specs.Stations.{unopened, opened, validPlan}
 use Rattle.model.specs.Calls.{admissibleStation}
-use Rattle.model.specs.Area.{zeros, figureBytes, areaOf, planIn, countIn, entriesIn, Reading, unsound, holds, reading}
+use Rattle.model.specs.Area.{zeros, headerOf, areaOf, planIn, countIn, entriesIn, Reading, unsound, holds, reading}
 use Rattle.model.proofs.AreaReading.{reading-of-area}
 use Rattle.model.proofs.Booleans.{holds-of, of-holds, never-both}
 use Rattle.records.specs.Records.{Decides}
@@ -38,7 +38,7 @@ entries-older p records (suc count) (suc newest) =
 
 -- a header fits where the records stand and it holds the figures after them
 pub fits-stored : (p : Plan) (area : List ℕ) (count : ℕ) (f : Figures) (same : Bool) → standTo p area count ≡ true
-    → f ≡ figuresTo p area count → Decides same (part 10 38 area ≡ zeros 6 ++ figureBytes f) → Decides same (HeaderFits p area count)
+    → f ≡ figuresTo p area count → Decides same (part 0 headerLength area ≡ headerOf p count f) → Decides same (HeaderFits p area count)
 fits-stored p area count f same stand brought test =
     record {
       shows = λ e. record { stand = stand; stored = rw brought at (test .shows e) };
@@ -88,7 +88,7 @@ module _ (newest : ℕ) where
         (ap validPlan (sym (planned ∙ parts .plan)) ∙ sym same ∙ not-true valid fails))
 
     -- there are more records than an area holds
-    pub says-crowded : (count : ℕ) → count ≡ countIn area → 128 < count → nothingStands 3 ≡ standingOf newest (reading area)
+    pub says-crowded : (count : ℕ) → count ≡ countIn area → mostRecords < count → nothingStands 3 ≡ standingOf newest (reading area)
     says-crowded count counted more = says-unsound (λ p es parts. omega (arith, counted, parts .count, parts .room))
 
   module _ (area : List ℕ) (plan : Plan) (count : ℕ) (header : Headed area plan count) where
@@ -107,7 +107,7 @@ module _ (newest : ℕ) where
         (λ p es parts.
         never-both (standTo p area (length es)) (parts .stand) (rw (same-plan p es parts, same-count p es parts) fewer))
 
-    -- the newest records cannot stand, or the figures stored are others
+    -- the newest records cannot stand, or the header is another
     pub says-other : (fits : Bool) → Decides fits (HeaderFits plan area count) → not fits ≡ true
         → nothingStands 3 ≡ standingOf newest (reading area)
     unfolding figuresTo
@@ -117,7 +117,7 @@ module _ (newest : ℕ) where
         decided-not test (not-true fits fails)
         (record {
           stand = rw (← same-plan p es parts, ← same-count p es parts) (parts .stand);
-          stored = parts .figures ∙ rw (← same-plan p es parts, ← same-count p es parts, parts .entries);
+          stored = rw (← same-plan p es parts, ← same-count p es parts, parts .entries) (parts .header);
         }))
 
     -- something stands behind the last record

@@ -1,16 +1,16 @@
 -- What an area says, as the code tells it. Assumes nothing.
 use Prim.Native.Nat.{ℕ, _≤_}
 use mathlib.Core.Bool.{true}
-use mathlib.Core.List.{List, _++_}
+use mathlib.Core.List.{List}
 use mathlib.Core.Path.{_≡_}
 use lib.Dec.{T}
 use lib.ListN.{length, drop, getD}
 use Rattle.model.specs.declared.Plan.{Plan}
-use Rattle.model.specs.Sizes.{areaLength, mostRecords}
+use Rattle.model.specs.Sizes.{headerLength, areaLength, mostRecords}
 use Rattle.model.specs.Stations.{unopened, opened, validPlan}
 use Rattle.model.specs.Figuring.{started, figuresOf}
 use Rattle.little.specs.Little.{part}
-use Rattle.model.specs.Area.{zeros, figureBytes, planIn, countIn, Reading, unsound, holds}
+use Rattle.model.specs.Area.{headerOf, planIn, countIn, Reading, unsound, holds}
 use Rattle.replaying.specs.Replaying.{figuresTo, standTo}
 use Rattle.replay.specs.declared.Standing.{Standing}
 
@@ -38,7 +38,7 @@ pub record Headed (area : List ℕ) (plan : Plan) (count : ℕ) : Type 0 where
   pub counted : count ≡ countIn area
   pub room : count ≤ mostRecords
 
--- each of an area's first records stands, and its header holds zeros behind the plan and the figures after these records
+-- each of an area's first records stands, and its header is that of a stream with this plan and these records
 pub record HeaderFits (p : Plan) (area : List ℕ) (count : ℕ) : Type 0 where
   pub stand : standTo p area count ≡ true
-  pub stored : part 10 38 area ≡ zeros 6 ++ figureBytes (figuresTo p area count)
+  pub stored : part 0 headerLength area ≡ headerOf p count (figuresTo p area count)

@@ -1,4 +1,4 @@
-// Reading an area: its records are replayed by the loop of its plan, and its figures and zeros compared with what they leave.
+// Reading an area: its records are replayed by the loop of its plan, and its header and zeros compared with what they leave.
 ghost use mathlib.Core.Path.{_≡_};
 ghost use mathlib.Core.Bool.{false};
 ghost use Prim.Native.Nat.{ℕ, _-_};
@@ -143,20 +143,20 @@ fn read_records(area: &[u8], plan: Plan, count: usize, newest: usize) -> Standin
     }
 }
 
-// Do the newest records stand, and does the header hold the figures after them? Most calls set none apart, and are spared a second
+// Do the newest records stand, and is the header the one after them? Most calls set none apart, and are spared a second
 // replay.
 fn fits_header(area: &[u8], plan: Plan, figures: Figures, from: usize, to: usize) -> bool
     requires { ⌜ Ready plan (now area) figures from to ⌝ }
     ensures { λ r. ⌜ Decides r (HeaderFits plan (now (area .entry)) to) ⌝ }
 {
     if from == to {
-        return records::has_figures(area, figures);
+        return records::has_header(area, plan, to, figures);
     }
     let all = replay_newest(area, plan, figures, from, to);
     if !all.sound {
         return false;
     }
-    records::has_figures(area, all.figures)
+    records::has_header(area, plan, to, all.figures)
 }
 
 // The replay of the newest records. Speed: the loops are chosen here once more, so that each has two callers: it is then compiled as a

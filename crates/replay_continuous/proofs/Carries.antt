@@ -2,7 +2,7 @@
 use mathlib.Core.Path.{refl}
 use Rattle.little.specs.Little.{part}
 use Rattle.model.specs.Sizes.{recordLength}
-use Rattle.records.specs.Records.{recordIn}
+use Rattle.model.specs.Records.{recordIn}
 use Rattle.replaying.proofs.Carries.{Carries, carrying}
 use Rattle.replay_continuous.specs.declared.Outcome.{Outcome}
 use Rattle.replay_continuous.specs.Places.{Tells, ReadAt}

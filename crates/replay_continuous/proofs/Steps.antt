@@ -22,9 +22,10 @@ use Rattle.model.specs.Calls.{isDiscontinued, accepts}
 use Rattle.model.proofs.Allowed.{ContinuousPlan, continuous-plan, allowed-run}
 use Rattle.model.proofs.Booleans.{never-both, within-of}
 use Rattle.rules.specs.Refusing.{isStop}
-use Rattle.records.specs.declared.Record.{Record}
+use Rattle.model.specs.declared.Record.{Record}
+use Rattle.model.specs.Records.{runKind, blockKind}
 use Rattle.replaying.specs.declared.Entered.{Entered}
-use Rattle.replaying.specs.Replaying.{oneNumber, headOf, whyOf, entered, tried, soundAt, unsoundAt, Reached, Ready}
+use Rattle.replaying.specs.Replaying.{oneNumber, headOf, flagged, wrongRun, wrongBlock, whyOf, entered, tried, soundAt, unsoundAt, Reached, Ready}
 use Rattle.replaying.proofs.Heads.{why-more}
 use Rattle.replaying.proofs.Reached.{reached-within, turns}
 use Rattle.replaying.proofs.Tried.{enteredWith, entered-read, accepted-zero, stop-tried, run-record, block-record, no-stop, stop-record}
@@ -247,16 +248,16 @@ module _ (p : Plan) (s : Place) (r : Record) (on : OnContinuous p s) (more : Boo
     one = not-false _ (sym counted ∙ single)
 
     module _ (kinds : r .kind < 256) (flags : r .flag < 256) where
-      pub right-run : (x : Step) → Gives p s x (Run (r .a) 0) → head ≡ 2 → Enters p s x r
+      pub right-run : (x : Step) → Gives p s x (Run (r .a) 0) → head ≡ runKind → Enters p s x r
       right-run x steps e = rw (run-record p _ r kinds flags one 0 (omega arith) (sym said ∙ e)) steps
 
-      pub wrong-run : (x : Step) → Gives p s x (Run (r .a) 1) → head ≡ 258 → (after : Place) → x ≡ Stands after → Enters p s (Stands after) r
+      pub wrong-run : (x : Step) → Gives p s x (Run (r .a) 1) → head ≡ wrongRun → (after : Place) → x ≡ Stands after → Enters p s (Stands after) r
       wrong-run x steps e after stands = rw (run-record p _ r kinds flags one 1 (omega arith) (sym said ∙ e)) (rw stands at steps)
 
-      pub right-block : (x : Step) → Gives p s x (Block (r .a) 0) → head ≡ 3 → Enters p s x r
+      pub right-block : (x : Step) → Gives p s x (Block (r .a) 0) → head ≡ blockKind → Enters p s x r
       right-block x steps e = rw (block-record p _ r kinds flags one 0 (omega arith) (sym said ∙ e)) steps
 
-      pub wrong-block : (x : Step) → Gives p s x (Block (r .a) 1) → head ≡ 259 → (after : Place) → x ≡ Stands after → Enters p s (Stands after) r
+      pub wrong-block : (x : Step) → Gives p s x (Block (r .a) 1) → head ≡ wrongBlock → (after : Place) → x ≡ Stands after → Enters p s (Stands after) r
       wrong-block x steps e after stands = rw (block-record p _ r kinds flags one 1 (omega arith) (sym said ∙ e)) (rw stands at steps)
 
 -- and a stop's, where no run or block of that head is accepted. In sampling no run is; a right block has another head; and a wrong one has
@@ -267,35 +268,35 @@ not-accepted p s e x fails steps = sym (ap (λ (y : Entered). y .sound) (rw fail
 
 module _ (p : Plan) (s : Place) (r : Record) (x : Step) (on : OnContinuous p s) (head why : ℕ) (said : head ≡ headOf r) (stop : why ≡ whyOf r)
     (steps : Gives p s x (Stop why (r .a))) where
-  left : ((w : ℕ) → w ≤ 1 → head ≡ 2 + w * 256 → accepts p (figuresHere p s) 0 (Run (r .a) w) ≡ false)
-      → ((w : ℕ) → w ≤ 1 → head ≡ 3 + w * 256 → accepts p (figuresHere p s) 0 (Block (r .a) w) ≡ false) → Enters p s x r
+  left : ((w : ℕ) → w ≤ 1 → head ≡ flagged runKind w → accepts p (figuresHere p s) 0 (Run (r .a) w) ≡ false)
+      → ((w : ℕ) → w ≤ 1 → head ≡ flagged blockKind w → accepts p (figuresHere p s) 0 (Block (r .a) w) ≡ false) → Enters p s x r
   left run block = rw (
     stop-record p (figuresHere p s) r (λ _. never-both _ (blocks p s on)) (λ _ _ w most e. run w most (said ∙ e))
         (λ _ _ w most e. block w most (said ∙ e)),
     ← stop,
   ) steps
 
-  module _ (none : s .left ≡ 0) (right : head ≡ 3 → ⊥) where
-    sampling : (head ≡ 259 → accepts p (figuresHere p s) 0 (Block (r .a) 1) ≡ false) → Enters p s x r
+  module _ (none : s .left ≡ 0) (right : head ≡ blockKind → ⊥) where
+    sampling : (head ≡ wrongBlock → accepts p (figuresHere p s) 0 (Block (r .a) 1) ≡ false) → Enters p s x r
     sampling wrong = left (λ w most e. no-run p (blocks p s on) s none (r .a) w) go
       where
-        go : (w : ℕ) → w ≤ 1 → head ≡ 3 + w * 256 → accepts p (figuresHere p s) 0 (Block (r .a) w) ≡ false
+        go : (w : ℕ) → w ≤ 1 → head ≡ flagged blockKind w → accepts p (figuresHere p s) 0 (Block (r .a) w) ≡ false
         go w most e = let one : w ≡ 1 = omega arith in rw one (wrong (omega arith))
 
-    pub sampling-other : (head ≡ 259 → ⊥) → Enters p s x r
+    pub sampling-other : (head ≡ wrongBlock → ⊥) → Enters p s x r
     sampling-other wrong = sampling (λ e. absurd (wrong e))
 
     pub sampling-unfit : (y : Step) → y ≡ Fails → Gives p s y (Block (r .a) 1) → Enters p s x r
     sampling-unfit y fails tried-so = sampling (λ _. not-accepted p s _ y fails tried-so)
 
-  module _ (some : s .left ≡ 0 → ⊥) (right : head ≡ 2 → ⊥) where
-    screening : (head ≡ 258 → accepts p (figuresHere p s) 0 (Run (r .a) 1) ≡ false) → Enters p s x r
+  module _ (some : s .left ≡ 0 → ⊥) (right : head ≡ runKind → ⊥) where
+    screening : (head ≡ wrongRun → accepts p (figuresHere p s) 0 (Run (r .a) 1) ≡ false) → Enters p s x r
     screening wrong = left go (λ w most e. no-block p (blocks p s on) s some (r .a) w)
       where
-        go : (w : ℕ) → w ≤ 1 → head ≡ 2 + w * 256 → accepts p (figuresHere p s) 0 (Run (r .a) w) ≡ false
+        go : (w : ℕ) → w ≤ 1 → head ≡ flagged runKind w → accepts p (figuresHere p s) 0 (Run (r .a) w) ≡ false
         go w most e = let one : w ≡ 1 = omega arith in rw one (wrong (omega arith))
 
-    pub screening-other : (head ≡ 258 → ⊥) → Enters p s x r
+    pub screening-other : (head ≡ wrongRun → ⊥) → Enters p s x r
     screening-other wrong = screening (λ e. absurd (wrong e))
 
     pub screening-unfit : (y : Step) → y ≡ Fails → Gives p s y (Run (r .a) 1) → Enters p s x r

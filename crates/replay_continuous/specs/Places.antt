@@ -14,7 +14,7 @@ use Rattle.model.specs.Sizes.{recordLength}
 use Rattle.model.specs.Stations.{within}
 use Rattle.model.specs.Figuring.{noLevel}
 use Rattle.replaying.specs.declared.Entered.{Entered}
-use Rattle.records.specs.declared.Record.{Record}
+use Rattle.model.specs.declared.Record.{Record}
 use Rattle.replaying.specs.Replaying.{Reached, entered, soundAt, unsoundAt}
 use Rattle.replay_continuous.specs.declared.Place.{Place}
 use Rattle.replay_continuous.specs.declared.Outcome.{Outcome}

@@ -10,7 +10,7 @@ ghost use Prim.Native.Nat.{_≤_};
 ghost use Rattle.little.specs.Little.{part};
 ghost use Rattle.model.specs.Sizes.{recordLength};
 ghost use Rattle.model.specs.declared.Entry.the-variants.{Run, Block, Stop};
-ghost use Rattle.records.specs.Records.{recordIn};
+ghost use Rattle.model.specs.Records.{recordIn};
 ghost use Rattle.replaying.specs.Replaying.{Ready, replayed, Reached, entered, tried};
 ghost use Rattle.replay_continuous.specs.declared.Step.the-variants.{Stands};
 ghost use Rattle.replay_continuous.specs.Places.{
@@ -30,12 +30,12 @@ ghost use Rattle.replay_continuous.specs.Places.{
 };
 use model::Figures;
 use model::Plan;
+use model::Record;
 use model::sizes;
 use plans::continuous;
 use plans::continuous::Continuous;
 use plans::credit::Credit;
 use plans::level::LevelState;
-use records::Record;
 use replaying::Entered;
 use rules::plan;
 use rules::refusing;

@@ -2,7 +2,7 @@
 use mathlib.Core.Path.{_≡_, refl}
 use Rattle.little.specs.Little.{part}
 use Rattle.model.specs.Sizes.{recordLength}
-use Rattle.records.specs.Records.{recordIn}
+use Rattle.model.specs.Records.{recordIn}
 use Rattle.replaying.specs.Replaying.{entered}
 use Rattle.replaying.proofs.Carries.{Carries, carrying}
 use Rattle.replay_level.specs.declared.Outcome.{Outcome}

@@ -25,9 +25,10 @@ use Rattle.model.specs.Calls.{firstOf, entryRefusals, isDiscontinued, sameLabel
 use Rattle.model.proofs.Allowed.{level-plan}
 use Rattle.model.proofs.Booleans.{both-true}
 use Rattle.rules.specs.Refusing.{mayFollow, isStop}
-use Rattle.records.specs.declared.Record.{Record}
+use Rattle.model.specs.declared.Record.{Record}
 use Rattle.replaying.specs.declared.Entered.{Entered}
-use Rattle.replaying.specs.Replaying.{entryOf, wellFormed, stands, enteredIf, entered, tried, askedLot, Reached, soundAt, unsoundAt, Ready}
+use Rattle.model.specs.Records.{entryOf}
+use Rattle.replaying.specs.Replaying.{wellFormed, stands, enteredIf, entered, tried, askedLot, Reached, soundAt, unsoundAt, Ready}
 use Rattle.replaying.specs.LotStreams.{lotFigures}
 use Rattle.replaying.proofs.LotStreams.{numbers-kept, lot-numbers, stop-numbers, lot-records}
 use Rattle.replaying.proofs.Reached.{Left, no-credit, reached-left, reached-within, ready-left, turns}

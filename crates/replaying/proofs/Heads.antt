@@ -7,12 +7,13 @@ use lib.Dec.{eqb}
 use borrow.Author.Needs.{needs}
 use borrow.Author.Tests.{eqb-true, eqb-false, eq-eqb, ne-eqb, le-leb, not-true, not-false}
 use Rattle.model.specs.Stations.{within}
+use Rattle.model.specs.declared.Record.{Record}
+use Rattle.model.specs.Records.{lotKind, stopKind}
 use Rattle.model.proofs.Booleans.{both-true, within-of}
-use Rattle.records.specs.declared.Record.{Record}
-use Rattle.replaying.specs.Replaying.{oneNumber, headOf, faultless, holdsStop, whyOf}
+use Rattle.replaying.specs.Replaying.{oneNumber, headOf, flagged, pause, change, faultless, holdsStop, whyOf}
 
 -- the head says kind, flag and the two zero bytes
-pub head-is : (r : Record) (k w : ℕ) → r .kind < 256 → r .flag < 256 → k < 256 → w < 256 → headOf r ≡ k + w * 256
+pub head-is : (r : Record) (k w : ℕ) → r .kind < 256 → r .flag < 256 → k < 256 → w < 256 → headOf r ≡ flagged k w
     → (r .kind ≡ k) × (r .flag ≡ w) × (r .spare ≡ 0)
 unfolding headOf
 head-is r k w hk hf k256 w256 e = (omega arith, omega arith, omega arith)
@@ -27,19 +28,19 @@ both-zero c d = go (eqb c 0) (eqb d 0) refl refl
     go false y e g = ne-eqb (c + d * 4294967296) 0 (λ z. eqb-false c 0 e (omega arith))
 
 -- a lot without fault is known by one number
-pub faultless-sum : (r : Record) (head : ℕ) → head ≡ headOf r → eqb (head + r .c * 2 + r .d * 4) 1 ≡ faultless r
+pub faultless-sum : (r : Record) (head : ℕ) → head ≡ headOf r → eqb (head + r .c * 2 + r .d * 4) lotKind ≡ faultless r
 unfolding faultless
-faultless-sum r head said = rw (← said) (go (eqb head 1) (eqb (r .c) 0) (eqb (r .d) 0) refl refl refl)
+faultless-sum r head said = rw (← said) (go (eqb head lotKind) (eqb (r .c) 0) (eqb (r .d) 0) refl refl refl)
   where
-    go : (x y z : Bool) → eqb head 1 ≡ x → eqb (r .c) 0 ≡ y → eqb (r .d) 0 ≡ z → eqb (head + r .c * 2 + r .d * 4) 1 ≡ x && (y && z)
-    go true true true e f g = eq-eqb (head + r .c * 2 + r .d * 4) 1 (omega (arith, eqb-true head 1 e, eqb-true (r .c) 0 f, eqb-true (r .d) 0 g))
-    go true true false e f g = ne-eqb (head + r .c * 2 + r .d * 4) 1 (λ same. eqb-false (r .d) 0 g (omega (arith, eqb-true head 1 e)))
-    go true false z e f g = ne-eqb (head + r .c * 2 + r .d * 4) 1 (λ same. eqb-false (r .c) 0 f (omega (arith, eqb-true head 1 e)))
-    go false y z e f g = ne-eqb (head + r .c * 2 + r .d * 4) 1 (λ same. eqb-false head 1 e (omega arith))
+    go : (x y z : Bool) → eqb head lotKind ≡ x → eqb (r .c) 0 ≡ y → eqb (r .d) 0 ≡ z → eqb (head + r .c * 2 + r .d * 4) lotKind ≡ x && (y && z)
+    go true true true e f g = eq-eqb (head + r .c * 2 + r .d * 4) lotKind (omega (arith, eqb-true head lotKind e, eqb-true (r .c) 0 f, eqb-true (r .d) 0 g))
+    go true true false e f g = ne-eqb (head + r .c * 2 + r .d * 4) lotKind (λ same. eqb-false (r .d) 0 g (omega (arith, eqb-true head lotKind e)))
+    go true false z e f g = ne-eqb (head + r .c * 2 + r .d * 4) lotKind (λ same. eqb-false (r .c) 0 f (omega (arith, eqb-true head lotKind e)))
+    go false y z e f g = ne-eqb (head + r .c * 2 + r .d * 4) lotKind (λ same. eqb-false head lotKind e (omega arith))
 
 -- what a stop's record is
 pub record StopForm (r : Record) : Type 0 where
-  pub kind : r .kind ≡ 4
+  pub kind : r .kind ≡ stopKind
   pub first : 1 ≤ r .flag
   pub last : r .flag ≤ 2
   pub spare : r .spare ≡ 0
@@ -52,12 +53,12 @@ stop-held r form = rw (form .kind, form .spare, form .one, le-leb 1 (r .flag) (f
 pub stop-form : (r : Record) → holdsStop r ≡ true → StopForm r
 unfolding holdsStop
 stop-form r e =
-    let all = both-true (eqb (r .kind) 4 && within 1 2 (r .flag) && eqb (r .spare) 0) (oneNumber r) e in
-    let three = both-true (eqb (r .kind) 4 && within 1 2 (r .flag)) (eqb (r .spare) 0) (all .0) in
-    let two = both-true (eqb (r .kind) 4) (within 1 2 (r .flag)) (three .0) in
+    let all = both-true (eqb (r .kind) stopKind && within 1 2 (r .flag) && eqb (r .spare) 0) (oneNumber r) e in
+    let three = both-true (eqb (r .kind) stopKind && within 1 2 (r .flag)) (eqb (r .spare) 0) (all .0) in
+    let two = both-true (eqb (r .kind) stopKind) (within 1 2 (r .flag)) (three .0) in
     let why = within-of 1 2 (r .flag) (two .1) in
     record {
-      kind = eqb-true (r .kind) 4 (two .0);
+      kind = eqb-true (r .kind) stopKind (two .0);
       first = why .0;
       last = why .1;
       spare = eqb-true (r .spare) 0 (three .1);
@@ -71,17 +72,17 @@ module _ (r : Record) (more : Bool) (counted : more ≡ not (oneNumber r)) where
   why-more e = rw (not-true (oneNumber r) (sym counted ∙ e), and-false _)
 
   module _ (one : more ≡ false) (head : ℕ) (said : head ≡ headOf r) where
-    pub why-headed : r .kind < 256 → r .flag < 256 → (w : ℕ) → 1 ≤ w → w ≤ 2 → head ≡ 4 + w * 256 → w ≡ whyOf r
+    pub why-headed : r .kind < 256 → r .flag < 256 → (w : ℕ) → 1 ≤ w → w ≤ 2 → head ≡ flagged stopKind w → w ≡ whyOf r
     unfolding whyOf
     why-headed kinds flags w least most e =
-        let form = head-is r 4 w kinds flags (omega arith) (omega arith) (sym said ∙ e) in
+        let form = head-is r stopKind w kinds flags (omega arith) (omega arith) (sym said ∙ e) in
         let alone : oneNumber r ≡ true = not-false _ (sym counted ∙ one) in
         let stop : StopForm r = record { kind = form .0; first = omega arith; last = omega arith; spare = form .2; one = alone } in
         rw (stop-held r stop) (sym (form .1))
 
-    pub why-none : (head ≡ 260 → ⊥) → (head ≡ 516 → ⊥) → 0 ≡ whyOf r
+    pub why-none : (head ≡ pause → ⊥) → (head ≡ change → ⊥) → 0 ≡ whyOf r
     unfolding whyOf headOf
-    why-none pause change = go (holdsStop r) refl
+    why-none no-pause no-change = go (holdsStop r) refl
       where
         go : (b : Bool) → holdsStop r ≡ b → 0 ≡ cond b (r .flag) 0
         go true e = let stop = stop-form r e in omega arith

@@ -11,11 +11,12 @@ use Rattle.plans.specs.declared.level.LevelState.{LevelState}
 use Rattle.model.specs.declared.Plan.{Plan}
 use Rattle.model.specs.declared.Entry.the-variants.{Lot, Stop}
 use Rattle.model.specs.declared.Figures.{Figures}
+use Rattle.model.specs.declared.Record.{Record}
 use Rattle.model.specs.Stations.{isContinuous, within}
 use Rattle.model.specs.Figuring.{verdictOn, acceptedBy, creditStep, levelStep, continuousStep, isLot, labelOf, stepped}
+use Rattle.model.specs.Records.{lotKind}
 use Rattle.model.proofs.Booleans.{both-true, never-both, within-of}
 use Rattle.rules.specs.Refusing.{mayFollow}
-use Rattle.records.specs.declared.Record.{Record}
 use Rattle.replaying.specs.declared.Entered.{Entered}
 use Rattle.replaying.specs.Replaying.{headOf, faultless, whyOf, entered, tried, askedLot}
 use Rattle.replaying.specs.LotStreams.{lotFigures}
@@ -52,27 +53,27 @@ follower-size least above label N e = within-of least largestLot N (both-true (n
 
 -- a record by its head: what its entry gives, it gives. Each from facts in the code's own form: which head was read, and what was tested
 module _ (p : Plan) (f : Figures) (r : Record) (y : Entered) where
-  pub lot-entered : (head : ℕ) → head ≡ headOf r → head ≡ 1 → y ≡ tried p f (askedLot p f (r .a) (r .b) (r .c) (r .d)) → y ≡ entered p f 0 r
+  pub lot-entered : (head : ℕ) → head ≡ headOf r → head ≡ lotKind → y ≡ tried p f (askedLot p f (r .a) (r .b) (r .c) (r .d)) → y ≡ entered p f 0 r
   lot-entered head said lot gives = gives ∙ sym (lot-record p f r (sym said ∙ lot))
 
   pub good-entered : (good : Bool) → good ≡ faultless r → good ≡ true → y ≡ tried p f (askedLot p f (r .a) (r .b) 0 0) → y ≡ entered p f 0 r
   unfolding faultless
   good-entered good tested fits gives =
-      let lot = both-true (eqb (headOf r) 1) (eqb (r .c) 0 && eqb (r .d) 0) (sym tested ∙ fits) in
+      let lot = both-true (eqb (headOf r) lotKind) (eqb (r .c) 0 && eqb (r .d) 0) (sym tested ∙ fits) in
       let none = both-true (eqb (r .c) 0) (eqb (r .d) 0) (lot .1) in
-      lot-entered (headOf r) refl (eqb-true (headOf r) 1 (lot .0)) (rw (eqb-true (r .c) 0 (none .0), eqb-true (r .d) 0 (none .1)) gives)
+      lot-entered (headOf r) refl (eqb-true (headOf r) lotKind (lot .0)) (rw (eqb-true (r .c) 0 (none .0), eqb-true (r .d) 0 (none .1)) gives)
 
-  pub stop-entered : (head why : ℕ) → head ≡ headOf r → (head ≡ 1 → ⊥) → why ≡ whyOf r → isContinuous p ≡ false
+  pub stop-entered : (head why : ℕ) → head ≡ headOf r → (head ≡ lotKind → ⊥) → why ≡ whyOf r → isContinuous p ≡ false
       → y ≡ tried p f (Stop why (r .a)) → y ≡ entered p f 0 r
   stop-entered head why said other stop lots gives =
       let never : isContinuous p ≡ true → ⊥ = λ on. never-both (isContinuous p) on lots in
       gives ∙ rw stop (sym (stop-record p f r (λ e _. other (said ∙ e)) (λ _ on. absurd (never on)) (λ _ on. absurd (never on))))
 
 -- a lot's that is not without fault has something wrong
-pub some-wrong : (r : Record) (good : Bool) (head : ℕ) → good ≡ faultless r → good ≡ false → head ≡ headOf r → head ≡ 1
+pub some-wrong : (r : Record) (good : Bool) (head : ℕ) → good ≡ faultless r → good ≡ false → head ≡ headOf r → head ≡ lotKind
     → (r .c ≡ 0) × (r .d ≡ 0) → ⊥
 unfolding faultless
 some-wrong r good head tested fails said lot none =
-    never-both good (rw (tested, ← said, eq-eqb head 1 lot, eq-eqb (r .c) 0 (none .0), eq-eqb (r .d) 0 (none .1))) fails
+    never-both good (rw (tested, ← said, eq-eqb head lotKind lot, eq-eqb (r .c) 0 (none .0), eq-eqb (r .d) 0 (none .1))) fails
 
 pub ruleset lot-records = (lot-entered, good-entered, stop-entered, some-wrong)

@@ -1,5 +1,5 @@
--- An area is sound where each of its parts is what a replay asks of it: the plan, the records one after the other, the figures
--- and the zeros behind the records; and in a sound area they are. Assumes nothing.
+-- An area is sound where each of its parts is what a replay asks of it: the records one after the other, the header with the plan, the
+-- count and the figures after them, and the zeros behind; and in a sound area they are. Assumes nothing.
 use Prim.Native.Nat.{ℕ, zero, suc, _+_, _*_, _-_, _≤_, _<_}
 use mathlib.Core.Path.{_≡_, refl, sym, ap, subst, _∙_}
 use mathlib.Core.Bool.{true, false}
@@ -18,38 +18,29 @@ use Rattle.model.specs.declared.Figures.{Figures}
 use Rattle.model.specs.Sizes.{recordLength, headerLength, mostRecords, areaLength}
 use Rattle.model.specs.Stations.{unopened, opened, validPlan, entryArguments, allWords}
 use Rattle.model.specs.Figuring.{stepped, figuresOf}
+use Rattle.model.specs.Records.{recordBytes, recordIn, recordOf, entryOf}
 use Rattle.model.specs.Calls.{firstOf, entryRefusals, admissible, accepts}
-use Rattle.model.specs.Area.{
-  zeros,
-  planBytes,
-  figureBytes,
-  recordOf,
-  recordsOf,
-  areaOf,
-  planIn,
-  countIn,
-  entryIn,
-  entriesIn,
-  holds,
-  reading,
-}
+use Rattle.model.specs.Area.{zeros, headerOf, recordsOf, areaOf, planIn, countIn, entriesIn, holds, reading}
 use Rattle.model.proofs.Booleans.{both-true}
 use Rattle.model.proofs.Allowed.{newest-of, count-within, plan-range}
 use Rattle.model.proofs.Keeping.{plan-of, entries-of, opened-admissible, entry-admissible}
 use Rattle.model.proofs.AreaReading.{
   length-record,
   length-records,
+  length-header,
   length-opened,
   plan-read,
   count-read,
+  entry-read,
   entries-read,
+  records-in,
   reading-of-area,
   area-of-reading,
 }
-use Rattle.records.specs.Records.{recordIn, recordAt}
-use Rattle.records.proofs.Laws.{part-bytes, part-part, part-of-byte, part-join, record-at}
-use Rattle.replaying.specs.Replaying.{entryOf, wellFormed, stands, recordsIn, figuresTo, standTo}
-use Rattle.replaying.proofs.RecordForm.{part-is-bytes, record-of, formed-of, entry-of-record, words-of}
+use Rattle.records.specs.Records.{recordAt}
+use Rattle.records.proofs.Laws.{part-bytes, part-part, record-at}
+use Rattle.replaying.specs.Replaying.{wellFormed, stands, recordsIn, figuresTo, standTo}
+use Rattle.replaying.proofs.RecordForm.{record-of, formed-of, words-of}
 
 -- ---- the records, one after the other
 
@@ -62,7 +53,7 @@ module _ (p : Plan) (area : List ℕ) where
   -- the figures after one record more
   pub figures-next : (i : ℕ)
       → figuresTo p area (suc i) ≡ stepped p (entryOf p (figuresTo p area i) (recordIn (recordAt area i))) (figuresTo p area i)
-  unfolding entriesIn figuresTo figuresOf recordsIn recordAt entryIn entryOf recordIn
+  unfolding entriesIn figuresTo figuresOf recordsIn recordAt
   figures-next i = refl
 
   stand-later : (i k : ℕ) → standTo p area i ≡ false → standTo p area (i + k) ≡ false
@@ -98,9 +89,9 @@ module _ (area : List ℕ) (i : ℕ) (l : length area ≡ areaLength) (h : AreBy
 
 module _ (p : Plan) (area : List ℕ) where
   -- calls could have left the entries of records that stand
-  pub stand-admissible : (i : ℕ) → length area ≡ areaLength → AreBytes area → i ≤ 128 → standTo p area i ≡ true
+  pub stand-admissible : (i : ℕ) → length area ≡ areaLength → AreBytes area → i ≤ mostRecords → standTo p area i ≡ true
       → T (admissible p (entriesIn p (recordsIn area) i))
-  unfolding entriesIn figuresTo recordsIn recordAt entryIn entryOf recordIn admissible
+  unfolding entriesIn figuresTo recordsIn recordAt admissible
   stand-admissible zero l h room e = tt
   stand-admissible (suc i) l h room e =
       let newest = stood p area i e in
@@ -112,9 +103,9 @@ module _ (p : Plan) (area : List ℕ) where
       words
 
   -- the records that stand are those of their entries
-  stand-records : (i : ℕ) → length area ≡ areaLength → AreBytes area → i ≤ 128 → standTo p area i ≡ true
+  stand-records : (i : ℕ) → length area ≡ areaLength → AreBytes area → i ≤ mostRecords → standTo p area i ≡ true
       → recordsOf (entriesIn p (recordsIn area) i) ≡ take (recordLength * i) (recordsIn area)
-  unfolding entriesIn figuresTo recordsIn recordAt entryIn entryOf recordIn recordsOf part
+  unfolding entriesIn figuresTo recordsIn recordAt recordsOf part
   stand-records zero l h room e = refl
   stand-records (suc i) l h room e =
       let newest = stood p area i e in
@@ -126,61 +117,38 @@ module _ (p : Plan) (area : List ℕ) where
 
 -- ---- from the parts to the reading
 
--- the first ten bytes, with a plan and a count
-headBytes : Plan → ℕ → List ℕ
-headBytes p count = p .kind ∷ p .option ∷ bytes 2 count ++ (bytes 4 (p .a) ++ bytes 2 (p .b))
-
--- the area of a stream: ten bytes, figures, records, zeros
-area-split : (p : Plan) (es : List Entry)
-    → areaOf (opened p es)
-    ≡ headBytes p (length es) ++ (zeros 6 ++ figureBytes (figuresOf p es))
-    ++ (recordsOf es ++ zeros (recordLength * (mostRecords - length es)))
-unfolding areaOf planBytes headBytes figureBytes bytes
-area-split p es = refl
-
 -- an area of these parts is a stream's
 area-of-parts : (p : Plan) (es : List Entry) (area : List ℕ) → length area ≡ areaLength → length es ≤ mostRecords
-    → part 0 10 area ≡ headBytes p (length es)
-    → part 10 38 area ≡ zeros 6 ++ figureBytes (figuresOf p es)
+    → part 0 headerLength area ≡ headerOf p (length es) (figuresOf p es)
     → part headerLength (recordLength * length es) area ≡ recordsOf es
     → drop (headerLength + recordLength * length es) area ≡ zeros (length area - (headerLength + recordLength * length es))
     → areaOf (opened p es) ≡ area
-area-of-parts p es area l room head figures records rest =
+unfolding areaOf
+area-of-parts p es area l room header records rest =
     let size : recordLength * (mostRecords - length es) ≡ length area - (headerLength + recordLength * length es) = omega arith in
-    let header = part-join 0 10 38 _ _ area head refl figures in
-    rw (area-split p es, size, ← header, ← rest, ← records, part-and-rest headerLength (recordLength * length es) area)
+    rw (size, ← header, ← rest, ← records, part-and-rest headerLength (recordLength * length es) area)
     (part-and-rest 0 headerLength area)
 
 module _ (area : List ℕ) (l : length area ≡ areaLength) (h : AreBytes area) where
-  -- the plan and the count in an area are what its first ten bytes say
-  head-of : part 0 10 area ≡ headBytes (planIn area) (countIn area)
-  unfolding headBytes planIn countIn bytes
-  head-of =
-      let b = part-is-bytes 8 2 area h (omega arith) in
-      let a = part-join 4 4 2 _ _ area (part-is-bytes 4 4 area h (omega arith)) refl b in
-      let count = part-join 2 2 6 _ _ area (part-is-bytes 2 2 area h (omega arith)) refl a in
-      let option = part-join 1 1 8 _ _ area (part-of-byte 1 _ area (omega arith) refl) refl count in
-      part-join 0 1 9 _ _ area (part-of-byte 0 _ area (omega arith) refl) refl option
-
   -- the first records are a part of the area
   take-records : (i : ℕ) → i ≤ mostRecords → take (recordLength * i) (recordsIn area) ≡ part headerLength (recordLength * i) area
   unfolding recordsIn part
   take-records i room = part-part headerLength (recordLength * mostRecords) 0 (recordLength * i) area (omega arith)
 
   -- an area whose parts are what a replay asks holds the entries of its records
-  pub parts-sound : T (validPlan (planIn area)) → countIn area ≤ 128 → standTo (planIn area) area (countIn area) ≡ true
-      → part 10 38 area ≡ zeros 6 ++ figureBytes (figuresTo (planIn area) area (countIn area))
+  pub parts-sound : T (validPlan (planIn area)) → countIn area ≤ mostRecords → standTo (planIn area) area (countIn area) ≡ true
+      → part 0 headerLength area ≡ headerOf (planIn area) (countIn area) (figuresTo (planIn area) area (countIn area))
       → drop (headerLength + recordLength * countIn area) area ≡ zeros (length area - (headerLength + recordLength * countIn area))
       → reading area ≡ holds (opened (planIn area) (entriesIn (planIn area) (recordsIn area) (countIn area)))
   unfolding figuresTo
-  parts-sound valid room stand figures rest =
+  parts-sound valid room stand header rest =
       let p : Plan = planIn area in
       let count : ℕ = countIn area in
       let es : List Entry = entriesIn p (recordsIn area) count in
       let counted : length es ≡ count = length-entries p (recordsIn area) count in
       let records = stand-records p area count l h room stand ∙ take-records count room in
       let whole : areaOf (opened p es) ≡ area =
-      area-of-parts p es area l (rw counted room) (rw counted head-of) figures (rw counted (sym records)) (rw counted rest) in
+      area-of-parts p es area l (rw counted room) (rw counted header) (rw counted (sym records)) (rw counted rest) in
       ap reading (sym whole)
       ∙ reading-of-area (opened p es) (opened-admissible p es valid (stand-admissible p area count l h room stand))
 
@@ -194,30 +162,16 @@ pub record SoundParts (p : Plan) (es : List Entry) (area : List ℕ) : Type 0 wh
   pub kind : getD area 0 0 ≡ 0 → ⊥
   pub valid : T (validPlan p)
   pub accepted : T (admissible p es)
-  pub room : length es ≤ 128
+  pub room : length es ≤ mostRecords
   pub stand : standTo p area (length es) ≡ true
-  pub figures : part 10 38 area ≡ zeros 6 ++ figureBytes (figuresOf p es)
+  pub header : part 0 headerLength area ≡ headerOf p (length es) (figuresOf p es)
   pub rest : drop (headerLength + recordLength * length es) area ≡ zeros (length area - (headerLength + recordLength * length es))
-
--- behind the header stand the records, and zeros
-behind-header : (p : Plan) (es : List Entry)
-    → drop headerLength (areaOf (opened p es)) ≡ recordsOf es ++ zeros (recordLength * (mostRecords - length es))
-unfolding areaOf planBytes figureBytes bytes
-behind-header p es = refl
-
--- and they are what is read as its records
-records-of-area : (p : Plan) (es : List Entry) → length es ≤ mostRecords
-    → recordsIn (areaOf (opened p es)) ≡ recordsOf es ++ zeros (recordLength * (mostRecords - length es))
-unfolding recordsIn part
-records-of-area p es h =
-    rw (behind-header p es)
-    (take-all (recordLength * mostRecords) _ (simp (length-append, length-records, length-replicate) (omega arith)))
 
 -- the record of an entry that was accepted stands
 entry-stands : (p : Plan) (f : Figures) (i : ℕ) (e : Entry) → firstOf (entryRefusals p f i e) ≡ 0
-    → T (allWords (entryArguments e)) → stands p f i (recordIn (recordOf e)) ≡ true
+    → T (allWords (entryArguments e)) → stands p f i (recordIn (recordBytes (recordOf e))) ≡ true
 unfolding stands accepts
-entry-stands p f i e h t = rw (formed-of e, entry-of-record p f i e h t, h)
+entry-stands p f i e h t = rw (formed-of e, entry-read p f i e h t, h)
 
 module _ (p : Plan) (es : List Entry) (area rest : List ℕ) (records : recordsIn area ≡ recordsOf es ++ rest) where
   -- the figures after those records
@@ -226,10 +180,12 @@ module _ (p : Plan) (es : List Entry) (area rest : List ℕ) (records : recordsI
   figures-of-records t = rw (records, entries-read p es rest t)
 
   -- the record behind them
-  record-behind : (e : Entry) (rest′ : List ℕ) → rest ≡ recordOf e ++ rest′ → recordAt area (length es) ≡ recordOf e
+  record-behind : (e : Entry) (rest′ : List ℕ) → rest ≡ recordBytes (recordOf e) ++ rest′
+      → recordAt area (length es) ≡ recordBytes (recordOf e)
   unfolding recordAt recordsIn part
   record-behind e rest′ next =
-      rw (records, drop-at (recordsOf es) rest _ (length-records es), next) (take-at (recordOf e) rest′ _ (length-record e))
+      rw (records, drop-at (recordsOf es) rest _ (length-records es), next)
+      (take-at (recordBytes (recordOf e)) rest′ _ (length-record (recordOf e)))
 
 -- records of entries that calls could have left stand
 pub stand-of : (p : Plan) (es : List Entry) (area rest : List ℕ) → recordsIn area ≡ recordsOf es ++ rest → T (admissible p es)
@@ -238,8 +194,8 @@ unfolding standTo recordsOf
 stand-of p [] area rest e t = refl
 stand-of p (x ∷ es) area rest e t =
     let newest = newest-of p x es t in
-    let records : recordsIn area ≡ recordsOf es ++ (recordOf x ++ rest) = e ∙ append-assoc (recordsOf es) (recordOf x) rest in
-    let before = stand-of p es area (recordOf x ++ rest) records (newest .others) in
+    let records = e ∙ append-assoc (recordsOf es) (recordBytes (recordOf x)) rest in
+    let before = stand-of p es area _ records (newest .others) in
     rw (
       before,
       figures-of-records p es area _ records (newest .others),
@@ -249,29 +205,30 @@ stand-of p (x ∷ es) area rest e t =
 
 -- a stream's area begins with its kind, which is not 0
 kind-of : (p : Plan) (es : List Entry) → T (validPlan p) → getD (areaOf (opened p es)) 0 0 ≡ 0 → ⊥
-unfolding areaOf planBytes
+unfolding areaOf headerOf
 kind-of p es valid e = let range = plan-range p valid in omega arith
 
--- the six unused bytes of the header, and the figures
-figures-of-area : (p : Plan) (es : List Entry) → part 10 38 (areaOf (opened p es)) ≡ zeros 6 ++ figureBytes (figuresOf p es)
-unfolding areaOf planBytes figureBytes bytes part
-figures-of-area p es = refl
+module _ (p : Plan) (es : List Entry) where
+  header-of-area : part 0 headerLength (areaOf (opened p es)) ≡ headerOf p (length es) (figuresOf p es)
+  unfolding areaOf part
+  header-of-area = take-at (headerOf p (length es) (figuresOf p es)) _ _ (length-header p (length es) (figuresOf p es))
 
--- the zeros behind the records
-rest-of-area : (p : Plan) (es : List Entry) → length es ≤ mostRecords
-    → drop (headerLength + recordLength * length es) (areaOf (opened p es))
-    ≡ zeros (length (areaOf (opened p es)) - (headerLength + recordLength * length es))
-rest-of-area p es room =
-    let size : areaLength - (headerLength + recordLength * length es) ≡ recordLength * (mostRecords - length es) = omega arith in
-    let behind = drop-at (recordsOf es) (zeros (recordLength * (mostRecords - length es))) _ (length-records es) in
-    rw (length-opened p es room, size, ← drop-drop (recordLength * length es) headerLength (areaOf (opened p es)), behind-header p es)
-    behind
+  -- the zeros behind the records
+  rest-of-area : length es ≤ mostRecords → drop (headerLength + recordLength * length es) (areaOf (opened p es))
+      ≡ zeros (length (areaOf (opened p es)) - (headerLength + recordLength * length es))
+  unfolding areaOf
+  rest-of-area room =
+      let size : areaLength - (headerLength + recordLength * length es) ≡ recordLength * (mostRecords - length es) = omega arith in
+      rw (length-opened p es room, size, ← drop-drop (recordLength * length es) headerLength)
+      (rw (drop-at (headerOf p (length es) (figuresOf p es)) _ _ (length-header p (length es) (figuresOf p es)))
+      (drop-at (recordsOf es) _ _ (length-records es)))
 
 -- the parts of a stream's area
 parts-of-area : (p : Plan) (es : List Entry) → T (validPlan p) → T (admissible p es) → SoundParts p es (areaOf (opened p es))
+unfolding recordsIn
 parts-of-area p es valid accepted =
     let room = count-within p es accepted in
-    let records = records-of-area p es room in
+    let records = records-in p es room in
     record {
       plan = plan-read p es valid accepted;
       count = count-read p es valid accepted;
@@ -281,7 +238,7 @@ parts-of-area p es valid accepted =
       accepted = accepted;
       room = room;
       stand = stand-of p es _ _ records accepted;
-      figures = figures-of-area p es;
+      header = header-of-area p es;
       rest = rest-of-area p es room;
     }
 

@@ -10,16 +10,17 @@ use Rattle.model.specs.declared.Plan.{Plan}
 use Rattle.model.specs.declared.Entry.{Entry}
 use Rattle.model.specs.declared.Entry.the-variants.{Lot, Run, Block, Stop}
 use Rattle.model.specs.declared.Figures.{Figures}
+use Rattle.model.specs.declared.Record.{Record}
 use Rattle.model.specs.Sizes.{mostRecords}
 use Rattle.model.specs.Stations.{isContinuous, within}
 use Rattle.model.specs.Figuring.{sampleAsked, verdictOn, stepped}
+use Rattle.model.specs.Records.{lotKind, runKind, blockKind, stopKind, entryOf}
 use Rattle.model.specs.Calls.{firstOf, entryRefusals, isDiscontinued, isFull, sameLabel, sizeInRange, countsAgree, accepts}
 use Rattle.model.proofs.Allowed.{allowed-lot, allowed-run, allowed-block, allowed-stop}
 use Rattle.model.proofs.Booleans.{both-true, never-both}
 use Rattle.rules.specs.Refusing.{isStop}
-use Rattle.records.specs.declared.Record.{Record}
 use Rattle.replaying.specs.declared.Entered.{Entered}
-use Rattle.replaying.specs.Replaying.{entryOf, oneNumber, wellFormed, headOf, holdsStop, whyOf, stands, enteredIf, entered, tried, askedLot, unsoundAt}
+use Rattle.replaying.specs.Replaying.{oneNumber, wellFormed, headOf, flagged, holdsStop, whyOf, stands, enteredIf, entered, tried, askedLot, unsoundAt}
 use Rattle.replaying.proofs.Heads.{head-is, StopForm, stop-held, stop-form}
 
 abbrev pub enteredWith : Bool → Figures → Entered
@@ -110,26 +111,26 @@ module _ (p : Plan) (f : Figures) (r : Record) where
   formed e w same = rw (w, same)
 
   -- the record of a lot, by its head
-  pub lot-record : headOf r ≡ 1 → entered p f 0 r ≡ tried p f (askedLot p f (r .a) (r .b) (r .c) (r .d))
+  pub lot-record : headOf r ≡ lotKind → entered p f 0 r ≡ tried p f (askedLot p f (r .a) (r .b) (r .c) (r .d))
   unfolding askedLot headOf wellFormed entryOf
   lot-record head =
-      let kind : r .kind ≡ 1 = omega arith in
+      let kind : r .kind ≡ lotKind = omega arith in
       let flag : r .flag ≡ 0 = omega arith in
       let spare : r .spare ≡ 0 = omega arith in
       formed _ (rw (kind, flag, spare)) (rw kind)
 
   -- and of a run and a block, with their flag
   module _ (kinds : r .kind < 256) (flags : r .flag < 256) (one : oneNumber r ≡ true) (w : ℕ) (small : w < 256) where
-    pub run-record : headOf r ≡ 2 + w * 256 → entered p f 0 r ≡ tried p f (Run (r .a) w)
+    pub run-record : headOf r ≡ flagged runKind w → entered p f 0 r ≡ tried p f (Run (r .a) w)
     unfolding wellFormed entryOf
     run-record head =
-        let form = head-is r 2 w kinds flags (omega arith) small head in
+        let form = head-is r runKind w kinds flags (omega arith) small head in
         formed _ (rw (form .0, form .2) one) (rw (form .0, form .1))
 
-    pub block-record : headOf r ≡ 3 + w * 256 → entered p f 0 r ≡ tried p f (Block (r .a) w)
+    pub block-record : headOf r ≡ flagged blockKind w → entered p f 0 r ≡ tried p f (Block (r .a) w)
     unfolding wellFormed entryOf
     block-record head =
-        let form = head-is r 3 w kinds flags (omega arith) small head in
+        let form = head-is r blockKind w kinds flags (omega arith) small head in
         formed _ (rw (form .0, form .2) one) (rw (form .0, form .1))
 
   -- a record that holds a stop; and one that fails, as a stop of why 0 does by 15
@@ -150,12 +151,12 @@ module _ (p : Plan) (f : Figures) (r : Record) where
   failed e = rw e (sym (no-stop (r .a)))
 
   -- one that is no lot's on a stream for lots, nor a run's or block's that a continuous stream accepts, stands where it holds a stop
-  module _ (lot : headOf r ≡ 1 → isContinuous p ≡ false → ⊥)
-      (run : oneNumber r ≡ true → isContinuous p ≡ true → (w : ℕ) → w ≤ 1 → headOf r ≡ 2 + w * 256 → accepts p f 0 (Run (r .a) w) ≡ false)
-      (block : oneNumber r ≡ true → isContinuous p ≡ true → (w : ℕ) → w ≤ 1 → headOf r ≡ 3 + w * 256 → accepts p f 0 (Block (r .a) w) ≡ false) where
+  module _ (lot : headOf r ≡ lotKind → isContinuous p ≡ false → ⊥)
+      (run : oneNumber r ≡ true → isContinuous p ≡ true → (w : ℕ) → w ≤ 1 → headOf r ≡ flagged runKind w → accepts p f 0 (Run (r .a) w) ≡ false)
+      (block : oneNumber r ≡ true → isContinuous p ≡ true → (w : ℕ) → w ≤ 1 → headOf r ≡ flagged blockKind w → accepts p f 0 (Block (r .a) w) ≡ false) where
     stop-alone : wellFormed r ≡ true → accepts p f 0 (entryOf p f r) ≡ true → holdsStop r ≡ true
     unfolding wellFormed headOf entryOf askedLot
-    stop-alone w a = go (eqb (r .kind) 1) (eqb (r .kind) 2) (eqb (r .kind) 3) refl refl refl (both-true (eqb (r .spare) 0) _ w .1)
+    stop-alone w a = go (eqb (r .kind) lotKind) (eqb (r .kind) runKind) (eqb (r .kind) blockKind) refl refl refl (both-true (eqb (r .spare) 0) _ w .1)
       where
         taken : (e : Entry) → entryOf p f r ≡ e → accepts p f 0 e ≡ true
         taken e same = rw same at a
@@ -166,23 +167,23 @@ module _ (p : Plan) (f : Figures) (r : Record) where
         spare : r .spare ≡ 0
         spare = eqb-true (r .spare) 0 (both-true (eqb (r .spare) 0) _ w .0)
 
-        go : (k1 k2 k3 : Bool) → eqb (r .kind) 1 ≡ k1 → eqb (r .kind) 2 ≡ k2 → eqb (r .kind) 3 ≡ k3
-            → cond k1 (eqb (r .flag) 0) ((k2 || k3 || eqb (r .kind) 4) && oneNumber r) ≡ true → holdsStop r ≡ true
+        go : (k1 k2 k3 : Bool) → eqb (r .kind) lotKind ≡ k1 → eqb (r .kind) runKind ≡ k2 → eqb (r .kind) blockKind ≡ k3
+            → cond k1 (eqb (r .flag) 0) ((k2 || k3 || eqb (r .kind) stopKind) && oneNumber r) ≡ true → holdsStop r ≡ true
         go true k2 k3 x y z t =
-            let k = eqb-true (r .kind) 1 x in
+            let k = eqb-true (r .kind) lotKind x in
             let flag = eqb-true (r .flag) 0 t in
             absurd (lot (omega (arith, spare)) (allowed-lot p f 0 _ _ _ _ _ (given (askedLot p f (r .a) (r .b) (r .c) (r .d)) (rw k)) .lots))
         go false true k3 x y z t =
-            let k = eqb-true (r .kind) 2 y in
+            let k = eqb-true (r .kind) runKind y in
             let allowed = allowed-run p f 0 _ _ (given (Run (r .a) (r .flag)) (rw k)) in
             absurd (never-both _ (taken (Run (r .a) (r .flag)) (rw k)) (run t (allowed .continuous) (r .flag) (allowed .wrong) (omega (arith, spare))))
         go false false true x y z t =
-            let k = eqb-true (r .kind) 3 z in
+            let k = eqb-true (r .kind) blockKind z in
             let allowed = allowed-block p f 0 _ _ (given (Block (r .a) (r .flag)) (rw k)) in
             absurd (never-both _ (taken (Block (r .a) (r .flag)) (rw k)) (block t (allowed .continuous) (r .flag) (allowed .wrong) (omega (arith, spare))))
         go false false false x y z t =
-            let both = both-true (eqb (r .kind) 4) (oneNumber r) t in
-            let k = eqb-true (r .kind) 4 (both .0) in
+            let both = both-true (eqb (r .kind) stopKind) (oneNumber r) t in
+            let k = eqb-true (r .kind) stopKind (both .0) in
             let allowed = allowed-stop p f 0 _ _ (given (Stop (r .flag) (r .a)) (rw k)) in
             stop-held r (record { kind = k; first = allowed .first; last = allowed .last; spare = spare; one = both .1 })
 

@@ -15,9 +15,10 @@ use Rattle.model.specs.declared.Figures.{Figures}
 use Rattle.model.specs.Sizes.{recordLength, headerLength}
 use Rattle.model.specs.Figuring.{started, figuresOf}
 use Rattle.model.specs.Calls.{admissible}
+use Rattle.model.specs.Records.{recordIn}
 use Rattle.model.specs.Area.{entriesIn}
 use Rattle.model.proofs.Booleans.{never-both}
-use Rattle.records.specs.Records.{recordIn, recordAt}
+use Rattle.records.specs.Records.{recordAt}
 use Rattle.records.proofs.Laws.{record-at}
 use Rattle.replaying.specs.declared.Entered.{Entered}
 use Rattle.replaying.specs.Replaying.{entered, recordsIn, figuresTo, standTo, Ready, replayed, soundAt, unsoundAt}

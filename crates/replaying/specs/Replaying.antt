@@ -8,23 +8,17 @@ use lib.ListN.{length}
 use Rattle.little.specs.Little.{part}
 use Rattle.model.specs.declared.Plan.{Plan}
 use Rattle.model.specs.declared.Entry.{Entry}
-use Rattle.model.specs.declared.Entry.the-variants.{Lot, Run, Block, Stop}
+use Rattle.model.specs.declared.Entry.the-variants.{Lot}
 use Rattle.model.specs.declared.Figures.{Figures}
+use Rattle.model.specs.declared.Record.{Record}
 use Rattle.model.specs.Calls.{accepts, admissible}
 use Rattle.model.specs.Sizes.{recordLength, headerLength, mostRecords, areaLength}
 use Rattle.model.specs.Stations.{validPlan, within}
 use Rattle.model.specs.Figuring.{sampleAsked, started, stepped, figuresOf}
+use Rattle.model.specs.Records.{lotKind, runKind, blockKind, stopKind, recordIn, entryOf}
 use Rattle.model.specs.Area.{entriesIn}
-use Rattle.records.specs.declared.Record.{Record}
-use Rattle.records.specs.Records.{recordIn, recordAt}
+use Rattle.records.specs.Records.{recordAt}
 use Rattle.replaying.specs.declared.Entered.{Entered}
-
--- the entry in a record, after figures f: a lot's sample is the one that was asked
-unfoldable pub entryOf : Plan → Figures → Record → Entry
-entryOf p f r =
-    cond (eqb (r .kind) 1) (Lot (r .a) (r .b) (sampleAsked p f (r .b)) (r .c) (r .d))
-    (cond (eqb (r .kind) 2) (Run (r .a) (r .flag))
-    (cond (eqb (r .kind) 3) (Block (r .a) (r .flag)) (Stop (r .flag) (r .a))))
 
 -- a record without a second, third or fourth number
 abbrev pub oneNumber : Record → Bool
@@ -34,21 +28,38 @@ oneNumber r = eqb (r .b) 0 && eqb (r .c) 0 && eqb (r .d) 0
 unfoldable pub wellFormed : Record → Bool
 wellFormed r =
     eqb (r .spare) 0
-    && cond (eqb (r .kind) 1) (eqb (r .flag) 0)
-    ((eqb (r .kind) 2 || eqb (r .kind) 3 || eqb (r .kind) 4) && oneNumber r)
+    && cond (eqb (r .kind) lotKind) (eqb (r .flag) 0)
+    ((eqb (r .kind) runKind || eqb (r .kind) blockKind || eqb (r .kind) stopKind) && oneNumber r)
 
 -- the first four bytes of a record as one number
 unfoldable pub headOf : Record → ℕ
 headOf r = r .kind + r .flag * 256 + r .spare * 65536
 
+-- the head of a record with this kind and flag; without a flag it is the kind
+abbrev pub flagged : ℕ → ℕ → ℕ
+flagged kind flag = kind + flag * 256
+
+abbrev pub wrongRun : ℕ
+wrongRun = flagged runKind 1
+
+abbrev pub wrongBlock : ℕ
+wrongBlock = flagged blockKind 1
+
+-- a stop of why 1, and one of why 2
+abbrev pub pause : ℕ
+pause = flagged stopKind 1
+
+abbrev pub change : ℕ
+change = flagged stopKind 2
+
 -- a lot's record with nothing wrong in the sample, nor in all that was heard
 unfoldable pub faultless : Record → Bool
-faultless r = eqb (headOf r) 1 && (eqb (r .c) 0 && eqb (r .d) 0)
+faultless r = eqb (headOf r) lotKind && (eqb (r .c) 0 && eqb (r .d) 0)
 
 -- the record of a stop that was accepted, paper 01, "The store": kind 4, its why as the flag, two zero bytes, its days, and zeros; the why
 -- is one of those that there are, 1 or 2
 unfoldable pub holdsStop : Record → Bool
-holdsStop r = eqb (r .kind) 4 && within 1 2 (r .flag) && eqb (r .spare) 0 && oneNumber r
+holdsStop r = eqb (r .kind) stopKind && within 1 2 (r .flag) && eqb (r .spare) 0 && oneNumber r
 
 -- the why of the stop that a record holds, 0 where it holds none, or one for a why that there is not: 15 refuses both
 unfoldable pub whyOf : Record → ℕ

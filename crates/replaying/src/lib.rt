@@ -5,8 +5,8 @@ ghost use mathlib.Core.Bool.{not};
 ghost use Prim.Native.Nat.{_<_};
 ghost use Rattle.replaying.specs.Replaying.{headOf, oneNumber, faultless, whyOf};
 use model::Figures;
+use model::Record;
 use plans::stops;
-use records::Record;
 
 // Records entered: whether each could stand there, and the figures after them.
 pub struct Entered {

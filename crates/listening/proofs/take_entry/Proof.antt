@@ -14,7 +14,7 @@ returns c =
     let whole = length-area-at _ _ (called .pre .whole) (called .pre .known) in
     let taken = c .before .before .take-entry .ensures in
     let lent = part-lent (called .args .store .now) (called .args .stream) (start .start-of .ensures) in
-    (rw lent at (taken .0), rw (taken .1, lent) (part-back _ _ (start .start-of .ensures) _ (length-rewritten _ _ _ _ _ (called .pre .room) refl whole)))
+    (rw lent at (taken .0), rw (taken .1, lent) (part-back _ _ (start .start-of .ensures) _ (length-rewritten _ _ _ _ _ _ (called .pre .room) refl whole)))
 
 pub take-entry-spec : {M : Type 1} → statement M
 take-entry-spec =

@@ -2,7 +2,7 @@
 -- Assumes nothing.
 use borrow.Author.Needs.{needs}
 use Rattle.little.specs.Little.{bytes}
-use Rattle.model.specs.Area.{recordBytes}
+use Rattle.model.specs.Records.{recordBytes}
 use Rattle.records.proofs.clear_record.Statement.{statement}
 use Rattle.records.proofs.clear_record.Tie as tie
 

@@ -2,7 +2,7 @@
 use borrow.Author.Needs.{needs}
 use mathlib.Core.Path.{sym, ap, _∙_}
 use native.Mathlib.Omega.{arith}
-use Rattle.records.specs.Records.{recordIn}
+use Rattle.model.specs.Records.{recordIn}
 use Rattle.records.proofs.Laws.{record-at}
 use Rattle.records.proofs.get_record.Statement.{statement}
 use Rattle.records.proofs.get_record.Tie as tie

@@ -3,23 +3,17 @@
 use borrow.Author.Needs.{needs}
 use native.Mathlib.Omega.{arith}
 use mathlib.Core.Path.{refl}
-use Rattle.little.specs.Little.{bytes}
+use Rattle.little.specs.Little.{bytes, part}
 use lib.ListN.{length-set}
-use Rattle.records.specs.Records.{levelBytes}
+use Rattle.model.specs.Area.{headerOf}
 use Rattle.records.proofs.Laws.{then-set}
 use Rattle.records.proofs.put_level.Statement.{statement}
 use Rattle.records.proofs.put_level.Tie as tie
 
-slice-write-area-3 : tie.Need-slice-write-area-3
-slice-write-area-3 c = simp length-set (omega arith)
-
-slice-write-area-4 : tie.Need-slice-write-area-4
-slice-write-area-4 c = simp length-set (omega arith)
-
 returns : tie.Need-returns
-unfolding bytes levelBytes
-returns c =
-    let state = c .before .before .before .before .before .before .before .before .before .args .state in
+unfolding headerOf bytes part
+returns c p n =
+    let state = c .before .before .before .before .before .before .before .before .before .before .args .figures .level in
     let level = then-set 16 _ (state .level) _ (c .before .before .before .before .before .before .put-u32 .ensures) refl (omega arith) in
     let row = then-set 16 _ (state .row) _ level refl (omega arith) in
     let judged = then-set 16 _ (state .judged) _ row refl (omega arith) in
@@ -28,5 +22,5 @@ returns c =
 pub put-level-spec : {M : Type 1} → statement M
 put-level-spec =
     tie.close
-    (tie.spec (λ c κs. search needs) (λ c. search needs) (λ c. search needs) (λ c. search needs) (λ c. search needs) (λ c. search needs)
-    slice-write-area-3 (λ c. search needs) slice-write-area-4 (λ c. search needs) returns)
+    (tie.spec (λ c κs. search needs) (λ c. search needs) (λ c. search needs) (λ c. search needs) (λ c. simp length-set (omega arith)) (λ c. search needs)
+    (λ c. simp length-set (omega arith)) (λ c. search needs) (λ c. simp length-set (omega arith)) (λ c. search needs) returns)

@@ -4,7 +4,7 @@ use borrow.Author.Needs.{needs}
 use native.Mathlib.Omega.{arith}
 use mathlib.Core.Path.{refl}
 use Rattle.little.specs.Little.{bytes}
-use Rattle.model.specs.Area.{recordBytes}
+use Rattle.model.specs.Records.{recordBytes}
 use Rattle.records.proofs.Laws.{then-written}
 use Rattle.records.proofs.put_record.Statement.{statement}
 use Rattle.records.proofs.put_record.Tie as tie
@@ -16,8 +16,8 @@ returns c =
     let at-c = at-d .before .before .before .before in
     let at-b = at-c .before .before .before .before in
     let at-a = at-b .before .before .before .before in
-    let at-kind = at-a .before .before .before .before in
-    let a = then-written _ _ _ _ (at-kind .put-kind .ensures) (at-a .put-u32 .ensures) refl (omega arith) in
+    let at-start = at-a .before .before .before .before in
+    let a = then-written _ _ _ _ (at-start .put-start .ensures) (at-a .put-u32 .ensures) refl (omega arith) in
     let b = then-written _ _ _ _ a (at-b .put-u322 .ensures) refl (omega arith) in
     let third = then-written _ _ _ _ b (at-c .put-u323 .ensures) refl (omega arith) in
     then-written _ _ _ _ third (at-d .put-u324 .ensures) refl (omega arith)

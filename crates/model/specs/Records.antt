@@ -1,0 +1,70 @@
+-- A record: paper 01, "The store", offset 48 on. Its numbers, its bytes, and the entry in it. Assumes nothing.
+use Prim.Native.Nat.{ℕ}
+use mathlib.Core.Bool.{cond}
+use mathlib.Core.List.{List, [], _∷_, _++_}
+use lib.Dec.{eqb}
+use lib.ListN.{getD}
+use Rattle.little.specs.Little.{bytes, value, part}
+use Rattle.model.specs.declared.Plan.{Plan}
+use Rattle.model.specs.declared.Entry.{Entry}
+use Rattle.model.specs.declared.Entry.the-variants.{Lot, Run, Block, Stop}
+use Rattle.model.specs.declared.Figures.{Figures}
+use Rattle.model.specs.declared.Record.{Record}
+use Rattle.model.specs.Figuring.{sampleAsked}
+
+-- the kinds
+abbrev pub lotKind : ℕ
+lotKind = 1
+
+abbrev pub runKind : ℕ
+runKind = 2
+
+abbrev pub blockKind : ℕ
+blockKind = 3
+
+abbrev pub stopKind : ℕ
+stopKind = 4
+
+-- a number that is one byte
+abbrev pub byte : ℕ → List ℕ
+byte n = n ∷ []
+
+-- a record's bytes: kind, flag, two that are zero in a sound store, four numbers
+unfoldable pub recordBytes : Record → List ℕ
+recordBytes r =
+    byte (r .kind) ++ byte (r .flag) ++ bytes 2 (r .spare) ++ bytes 4 (r .a) ++ bytes 4 (r .b) ++ bytes 4 (r .c) ++ bytes 4 (r .d)
+
+-- what the bytes of a record say
+unfoldable pub recordIn : List ℕ → Record
+recordIn r =
+    record {
+      kind = getD r 0 0;
+      flag = getD r 1 0;
+      spare = value (part 2 2 r);
+      a = value (part 4 4 r);
+      b = value (part 8 4 r);
+      c = value (part 12 4 r);
+      d = value (part 16 4 r);
+    }
+
+-- a record with one number
+abbrev pub withOne : ℕ → ℕ → ℕ → Record
+withOne kind flag a = record { kind = kind; flag = flag; spare = 0; a = a; b = 0; c = 0; d = 0 }
+
+-- a lot's record
+abbrev pub lotRecord : ℕ → ℕ → ℕ → ℕ → Record
+lotRecord label N d D = record { kind = lotKind; flag = 0; spare = 0; a = label; b = N; c = d; d = D }
+
+-- the record of an entry
+unfoldable pub recordOf : Entry → Record
+recordOf (Lot label N n d D) = lotRecord label N d D
+recordOf (Run h w) = withOne runKind w h
+recordOf (Block q w) = withOne blockKind w q
+recordOf (Stop why days) = withOne stopKind why days
+
+-- the entry in a record, after figures f. A lot's sample is in no record: it is the one that was asked
+unfoldable pub entryOf : Plan → Figures → Record → Entry
+entryOf p f r =
+    cond (eqb (r .kind) lotKind) (Lot (r .a) (r .b) (sampleAsked p f (r .b)) (r .c) (r .d))
+    (cond (eqb (r .kind) runKind) (Run (r .a) (r .flag))
+    (cond (eqb (r .kind) blockKind) (Block (r .a) (r .flag)) (Stop (r .flag) (r .a))))

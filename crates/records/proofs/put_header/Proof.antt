@@ -1,0 +1,32 @@
+-- `records::put_header` meets its contract: the parts are neighbours.
+-- Assumes nothing.
+use borrow.Author.Needs.{needs}
+use native.Mathlib.Omega.{arith}
+use mathlib.Core.Path.{refl}
+use Rattle.little.specs.Little.{bytes, part}
+use Rattle.model.specs.Area.{headerOf}
+use Rattle.records.proofs.Laws.{plan-fits, then-written}
+use Rattle.records.proofs.put_header.Statement.{statement}
+use Rattle.records.proofs.put_header.Tie as tie
+
+put-plan-requires : tie.Need-put-plan-requires
+put-plan-requires c κs = (search needs, plan-fits _ _ (c .before .before .pre .1) (c .before .before .pre .2))
+
+returns : tie.Need-returns
+unfolding headerOf bytes part
+returns c =
+    let at-unused = c .before .before in
+    let at-accepted = at-unused .before .before .before .before in
+    let at-continuous = at-accepted .before .before .before .before in
+    let at-level = at-continuous .before .before .before .before in
+    let at-plan = at-level .before .before .before .before in
+    let args = at-plan .before .before .before .args in
+    let level = then-written 0 _ _ _ (at-plan .put-plan .ensures (args .figures)) (at-level .put-level .ensures (args .plan) (args .count)) refl (omega arith) in
+    let continuous = then-written 0 _ _ _ level (at-continuous .put-continuous .ensures (args .plan) (args .count)) refl (omega arith) in
+    let accepted = then-written 0 _ _ _ continuous (at-accepted .put-u64 .ensures) refl (omega arith) in
+    then-written 0 _ _ _ accepted (at-unused .put-u642 .ensures) refl (omega arith)
+
+pub put-header-spec : {M : Type 1} → statement M
+put-header-spec =
+    tie.close
+    (tie.spec put-plan-requires (λ c κs. search needs) (λ c κs. search needs) (λ c κs. search needs) (λ c κs. search needs) (λ c. search needs) returns)
