@@ -79,10 +79,8 @@ pub struct Answer {
     pub third: u32,
 }
 
-// A stream's figures.
-//
-// The words come first, and there is no flag: a struct goes from function to function in memory, and the processor waits where a
-// number is read in another width than it was written in.
+// A stream's figures. Speed: the words come first, and there is no flag: a struct goes from function to function in memory, and where a
+// number is read in another width than it was written in, the processor waits some 5 to 10 ns.
 pub struct Figures {
     // the least label above the newest standing lot's, 0 where no lot stands
     pub above: u64,

