@@ -55,7 +55,7 @@ pub fn put_u64(s: &mut [u8], at: usize, x: u64)
     put(s, at, 8, x);
 }
 
-// The byte of s at an index, as a number of the width that others have.
+// The byte of s at an index.
 pub fn byte(s: &[u8], at: usize) -> u32
     requires { ⌜ at < length (now s) ⌝ }
     ensures { λ r. ⌜ (r ≡ getD (now (s .entry)) at 0) × (r < 256) ⌝ }

@@ -1,7 +1,7 @@
 -- Parts of a list of bytes and what they hold, writes one behind the other, and tests that decide a statement.
 -- Assumes nothing.
 use mathlib.Core.Path.{_≡_, refl, sym, ap, _∙_}
-use mathlib.Core.Bool.{Bool, true, false, _&&_}
+use mathlib.Core.Bool.{Bool, false, _&&_}
 use mathlib.Core.List.{List, [], _∷_, _++_}
 use Prim.Native.Nat.{ℕ, zero, suc, _+_, _*_, _^_, _≤_, _<_}
 use native.Mathlib.Nat.{add-zero, add-assoc}
@@ -68,13 +68,13 @@ unfolding part
 part-of-byte at n s h e = rw (drop-cons s at 0 h, e)
 
 -- the two parts of a list
-part-front : (j : ℕ) (a b : List ℕ) → length a ≡ j → part 0 j (a ++ b) ≡ a
+part-front : (a b : List ℕ) → part 0 (length a) (a ++ b) ≡ a
 unfolding part
-part-front j a b l = take-at a b j l
+part-front a b = take-at a b _ refl
 
-part-back : (j k : ℕ) (a b : List ℕ) → length a ≡ j → length b ≡ k → part j k (a ++ b) ≡ b
+part-back : (a b : List ℕ) → part (length a) (length b) (a ++ b) ≡ b
 unfolding part
-part-back j k a b l m = rw (drop-at a b j l) (take-all k b (omega arith))
+part-back a b = rw (drop-at a b _ refl) (take-all (length b) b (omega arith))
 
 -- two neighbouring parts are one
 pub part-join : (at j k : ℕ) {next : ℕ} (a b s : List ℕ) → part at j s ≡ a → next ≡ at + j → part next k s ≡ b → part at (j + k) s ≡ a ++ b
@@ -111,13 +111,15 @@ record-read area at =
       part-part at recordLength 16 4 area (lit≤ tt),
     )
 
--- ---- writes
+-- ---- the header
 
 -- the numbers of a valid plan, and a count of records, fit their bytes
 pub plan-fits : (p : Plan) (count : ℕ) → T (validPlan p) → count ≤ mostRecords → PlanFits p count
 plan-fits p count valid room =
     let range = plan-range p valid in
     record { kinds = omega arith; options = omega arith; intervals = omega arith; counts = omega arith }
+
+-- ---- writes
 
 -- a write, and one behind it
 pub then-written : (at : ℕ) {next : ℕ} (a b : List ℕ) (s : List ℕ) {t u : List ℕ} → t ≡ written at a s → u ≡ written next b t → next ≡ at + length a → next + length b ≤ length s → u ≡ written at (a ++ b) s
@@ -187,8 +189,8 @@ both-compare {a} {b} {s} {u} {v} {at} {next} first second e =
                 part-join at j k u v s (first .decides .shows (both .0)) e (second .decides .shows (both .1));
             shown =
                 λ t.
-                let front = sym (part-part at (j + k) 0 j s (omega arith)) ∙ ap (part 0 j) t ∙ part-front j u v refl in
-                let back = sym (part-part at (j + k) j k s (omega arith)) ∙ ap (part j k) t ∙ part-back j k u v refl refl in
+                let front = sym (part-part at (j + k) 0 j s (omega arith)) ∙ ap (part 0 j) t ∙ part-front u v in
+                let back = sym (part-part at (j + k) j k s (omega arith)) ∙ ap (part j k) t ∙ part-back u v in
                 rw (first .decides .shown (rw add-zero at front), second .decides .shown (rw e back));
           });
     }

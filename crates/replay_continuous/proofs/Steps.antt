@@ -1,6 +1,6 @@
 -- What an entry gives on a continuous stream, in its place: each answer from facts in the code's own form, what was tested and what the callees
 -- ensure. The sets at the end are handed to the search, which finds these facts among what a function has learnt. Assumes nothing.
-use Prim.Native.Nat.{ℕ, _+_, _*_, _≤_, _<_, _^_}
+use Prim.Native.Nat.{ℕ, _+_, _≤_, _<_, _^_}
 use mathlib.Core.Path.{_≡_, refl, sym, ap, _∙_}
 use mathlib.Core.Bool.{Bool, true, false, not}
 use mathlib.Core.List.{List}

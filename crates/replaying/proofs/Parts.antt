@@ -7,10 +7,10 @@ use mathlib.Core.List.{List, [], _∷_, _++_, append-assoc}
 use native.Mathlib.Nat.{add-zero, add-suc}
 use native.Mathlib.Omega.{arith}
 use lib.Dec.{T}
-use lib.ListN.{length, getD, take, drop, length-append, length-replicate}
-use lib.Seq.{take-add, take-at, drop-at, drop-drop, take-all}
+use lib.ListN.{length, getD, take, drop}
+use lib.Seq.{take-add, take-at, drop-at, drop-drop}
 use borrow.Author.Tests.{eqb-true}
-use Rattle.little.specs.Little.{bytes, part, AreBytes}
+use Rattle.little.specs.Little.{part, AreBytes}
 use Rattle.little.proofs.Laws.{length-part, part-and-rest}
 use Rattle.model.specs.declared.Plan.{Plan}
 use Rattle.model.specs.declared.Entry.{Entry}
@@ -25,7 +25,6 @@ use Rattle.model.proofs.Booleans.{both-true}
 use Rattle.model.proofs.Allowed.{newest-of, count-within, plan-range}
 use Rattle.model.proofs.Keeping.{plan-of, entries-of, opened-admissible, entry-admissible}
 use Rattle.model.proofs.AreaReading.{
-  length-record,
   length-records,
   length-header,
   length-opened,
@@ -33,6 +32,7 @@ use Rattle.model.proofs.AreaReading.{
   count-read,
   entry-read,
   entries-read,
+  part-record,
   records-in,
   reading-of-area,
   area-of-reading,
@@ -179,28 +179,16 @@ module _ (p : Plan) (es : List Entry) (area rest : List ℕ) (records : recordsI
   unfolding figuresTo
   figures-of-records t = rw (records, entries-read p es rest t)
 
-  -- the record behind them
-  record-behind : (e : Entry) (rest′ : List ℕ) → rest ≡ recordBytes (recordOf e) ++ rest′
-      → recordAt area (length es) ≡ recordBytes (recordOf e)
-  unfolding recordAt recordsIn part
-  record-behind e rest′ next =
-      rw (records, drop-at (recordsOf es) rest _ (length-records es), next)
-      (take-at (recordBytes (recordOf e)) rest′ _ (length-record (recordOf e)))
-
 -- records of entries that calls could have left stand
 pub stand-of : (p : Plan) (es : List Entry) (area rest : List ℕ) → recordsIn area ≡ recordsOf es ++ rest → T (admissible p es)
     → standTo p area (length es) ≡ true
-unfolding standTo recordsOf
+unfolding standTo recordsOf recordAt recordsIn
 stand-of p [] area rest e t = refl
 stand-of p (x ∷ es) area rest e t =
     let newest = newest-of p x es t in
     let records = e ∙ append-assoc (recordsOf es) (recordBytes (recordOf x)) rest in
     let before = stand-of p es area _ records (newest .others) in
-    rw (
-      before,
-      figures-of-records p es area _ records (newest .others),
-      record-behind p es area _ records x rest refl,
-    )
+    rw (before, figures-of-records p es area _ records (newest .others), records, part-record x es rest)
     (entry-stands p (figuresOf p es) (length es) x (newest .accepted) (newest .words))
 
 -- a stream's area begins with its kind, which is not 0
