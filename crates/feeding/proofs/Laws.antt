@@ -16,7 +16,7 @@ use Rattle.model.specs.declared.Call.{Call}
 use Rattle.model.specs.Store.{onStore, fresh}
 use Rattle.model.specs.Claims.{on}
 use Rattle.model.proofs.Booleans.{never-both}
-use Rattle.frame_text.specs.declared.Frame.the-variants.{Made, Bad}
+use Rattle.numbering.specs.declared.Frame.the-variants.{Made, Bad}
 use Rattle.frame_text.specs.Frames.{frameLength, frameOf}
 use Rattle.frame_text.specs.Answers.{lineFeed, textLength, badLength, answerText, badText}
 use Rattle.frame_text.specs.Program.{onFrame, onLine, LineOutcome}

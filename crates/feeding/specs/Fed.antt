@@ -7,7 +7,7 @@ use lib.Dec.{T}
 use lib.ListN.{length, take, drop}
 use Rattle.little.specs.Little.{part, written}
 use Rattle.model.specs.Store.{fresh}
-use Rattle.frame_text.specs.declared.Frame.the-variants.{Bad}
+use Rattle.numbering.specs.declared.Frame.the-variants.{Bad}
 use Rattle.frame_text.specs.Digits.{allDigits}
 use Rattle.frame_text.specs.Frames.{frameLength, frameOf}
 use Rattle.frame_text.specs.Answers.{textLength}

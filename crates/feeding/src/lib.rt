@@ -12,9 +12,9 @@ ghost use Rattle.frame_text.specs.Feeding.{lineRoom, kept};
 ghost use Rattle.feeding.specs.Fed.{held, FrameMade, LineEnded, BytesTaken, FrameTaken, SomeTaken, FedBy, Finished, AllFed};
 use frame_text::BAD_LENGTH;
 use frame_text::FRAME_LENGTH;
-use frame_text::Frame;
 use frame_text::LINE_FEED;
 use frame_text::TEXT_LENGTH;
+use numbering::Frame;
 
 // How many bytes the unfinished line has, and how many bytes of text were written.
 pub struct Fed {

@@ -11,8 +11,8 @@ use lib.ListN.{length, length-append}
 use Rattle.model.specs.declared.Call.{Call}
 use Rattle.model.specs.Store.{fresh}
 use Rattle.model.proofs.Booleans.{both-of, both-true, of-holds}
-use Rattle.frame_text.specs.declared.Frame.{Frame}
-use Rattle.frame_text.specs.declared.Frame.the-variants.{Made, Bad}
+use Rattle.numbering.specs.declared.Frame.{Frame}
+use Rattle.numbering.specs.declared.Frame.the-variants.{Made, Bad}
 use Rattle.frame_text.specs.Digits.{digit, allDigits}
 use Rattle.frame_text.specs.Frames.{frameLength, frameOf}
 use Rattle.frame_text.specs.Answers.{lineFeed}

@@ -1,11 +1,11 @@
 -- Numbers side by side in the fields of one word: masked, joined and parted all at once. Assumes nothing.
 use mathlib.Core.Path.{_≡_, refl, sym, ap, _∙_}
-use mathlib.Core.List.{List, [], _∷_}
+use mathlib.Core.List.{List, [], _∷_, _++_}
 use Prim.Native.Nat.{ℕ, zero, suc, _+_, _-_, _*_, _/_, _%_, _^_, _<_}
 use native.Mathlib.Nat.{mod-lt, lt-of-lt-of-le, le-add-left}
 use native.Mathlib.Omega.{arith}
 use lib.Bits.{bitAnd, and-block, and-mask, and-zero-r}
-use lib.ListN.{length}
+use lib.ListN.{length, getD}
 use lib.Pow.{pow-pos, pow-mono, split, mod-mod-pow, ones-lt}
 
 -- ---- fields, and masks of their low bits
@@ -42,6 +42,15 @@ mask-law k j m y e = ap (bitAnd y) e ∙ masked k j m y
 abbrev pub Below : ℕ → List ℕ → Type 0
 Below P [] = Unit {0}
 Below P (a ∷ xs) = (a < P) × Below P xs
+
+pub below-last : (P : ℕ) (xs : List ℕ) (b : ℕ) → Below P xs → b < P → Below P (xs ++ (b ∷ []))
+below-last P [] b h small = (small, tt)
+below-last P (x ∷ xs) b h small = (h .0, below-last P xs b (h .1) small)
+
+pub below-at : (P : ℕ) → 0 < P → (xs : List ℕ) → Below P xs → (i : ℕ) → getD xs i 0 < P
+below-at P pos [] h i = pos
+below-at P pos (x ∷ xs) h zero = h .0
+below-at P pos (x ∷ xs) h (suc i) = below-at P pos xs (h .1) i
 
 -- ---- neighbours joined, and items parted
 

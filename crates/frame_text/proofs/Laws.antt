@@ -9,7 +9,7 @@ use native.Mathlib.Omega.{arith}
 use borrow.Author.Tests.{ltb-true, ltb-false, leb-true, le-leb, lt-leb}
 use lib.Dec.{T, leb, ltb, lit<}
 use lib.ListN.{length, take, drop, set, length-append, length-drop, take-append-drop}
-use lib.Seq.{take-all, drop-drop}
+use lib.Seq.{take-add}
 use Rattle.little.specs.Little.{part, written}
 use Rattle.little.proofs.Laws.{set-written, written-next, length-written}
 use Rattle.model.specs.declared.Answer.{Answer}
@@ -64,23 +64,18 @@ digits-lost at k s lost = go (allDigits s) refl
     go true e = absurd (never-both (allDigits (part at k s)) (holds-of _ (digits-part at k s (of-holds _ e))) lost)
     go false e = refl
 
-digits-append : (s t : List ℕ) → T (allDigits s) → T (allDigits t) → T (allDigits (s ++ t))
+-- behind digits, the rest decides
+digits-append : (s t : List ℕ) → T (allDigits s) → allDigits (s ++ t) ≡ allDigits t
 unfolding allDigits
-digits-append [] t hs ht = ht
-digits-append (b ∷ s) t hs ht =
-    let parts : T (digit b) × T (allDigits s) = both-of (digit b) (allDigits s) hs in
-    both (digit b) _ (parts .0) (digits-append s t (parts .1) ht)
+digits-append [] t h = refl
+digits-append (b ∷ s) t h =
+    let parts : T (digit b) × T (allDigits s) = both-of (digit b) (allDigits s) h in
+    rw (holds-of (digit b) (parts .0)) (digits-append s t (parts .1))
 
--- three parts of sixteen cover a frame's line
-pub digits-covered : (s : List ℕ) → length s ≡ frameLength
-    → T (allDigits (part 0 16 s)) → T (allDigits (part 16 16 s)) → T (allDigits (part 28 16 s)) → T (allDigits s)
+-- one part more
+pub digits-on : (at k : ℕ) (s : List ℕ) → T (allDigits (take at s)) → allDigits (take (at + k) s) ≡ allDigits (part at k s)
 unfolding part
-digits-covered s long first second third =
-    let all : take 16 (drop 28 s) ≡ drop 28 s = take-all 16 (drop 28 s) (simp length-drop (omega arith)) in
-    let last : T (allDigits (drop 32 s)) = rw (all, drop-drop 4 28 s) at (digits-drop 4 (take 16 (drop 28 s)) third) in
-    let rest : T (allDigits (drop 16 s)) =
-    rw (take-append-drop 16 (drop 16 s)) at (digits-append (take 16 (drop 16 s)) (drop 16 (drop 16 s)) second (rw (drop-drop 16 16 s) last)) in
-    rw (take-append-drop 16 s) at (digits-append (take 16 s) (drop 16 s) first rest)
+digits-on at k s h = rw (take-add at k s) (digits-append (take at s) (take k (drop at s)) h)
 
 -- ---- a number and its digits
 

@@ -2,7 +2,6 @@
 pub mod Laws
 pub mod Fields
 pub mod Words
-pub mod Small
 pub mod Requests
 pub mod Feeding
 pub mod WholeCase

@@ -83,8 +83,9 @@ use Rattle.model.specs.Area.{
   onArea,
 }
 use Rattle.model.specs.Store.{fresh, areaAt, onStream, onStore}
+use Rattle.numbering.specs.Numbers.{uses, unusedZero, numbered}
 use Rattle.frame_text.specs.Digits.{digit, allDigits, digitValue, digitOf, goneOn, hexValue, digitsOf}
-use Rattle.frame_text.specs.Frames.{callNumber, streamIn, argument, allZero, madeIf, numbered, frameOf}
+use Rattle.frame_text.specs.Frames.{callNumber, streamIn, argument, argumentsTo, frameOf}
 use Rattle.frame_text.specs.Answers.{answerText, badText}
 use Rattle.frame_text.specs.Program.{before, lines, onFrame, onLine, outputFrom, output}
 use Rattle.frame_text.specs.Case.{
@@ -113,7 +114,8 @@ unfolding
     entryAnswer newestKind answerOf withoutNewest changed call admissible admissibleStation
     recordBytes recordIn recordOf entryOf headerOf recordsOf areaOf planIn countIn entriesIn stationIn sameBytes
     reading onArea fresh areaAt onStream onStore
-    digit allDigits digitValue digitOf goneOn hexValue digitsOf callNumber streamIn argument allZero madeIf numbered frameOf
+    digit allDigits digitValue digitOf goneOn hexValue digitsOf callNumber streamIn argument argumentsTo
+    uses unusedZero numbered frameOf
     answerText badText before lines onFrame onLine outputFrom output
     openLine lotLine askLine backLine openAnswer lotAnswer askAnswer backAnswer caseInput caseOutput
 whole-case = refl

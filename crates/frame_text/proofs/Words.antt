@@ -10,7 +10,7 @@ use lib.Bits.{bitAnd, and-le-r, and-mask}
 use lib.Dec.{T, ltb, lit<, lit≤}
 use lib.ListN.{length, drop, length-drop}
 use lib.Seq.{drop-append-le, take-append-le}
-use Rattle.little.specs.Little.{bytes, value, part, AreBytes}
+use Rattle.little.specs.Little.{bytes, value, part}
 use Rattle.little.proofs.Laws.{bytes-value, length-part, part-and-rest}
 use Rattle.model.proofs.Booleans.{both-of}
 use Rattle.frame_text.specs.Digits.{digit, allDigits, digitValue, digitOf, goneOn, hexValue, digitsOf}
@@ -21,6 +21,8 @@ use Rattle.frame_text.proofs.Fields.{
   picked,
   mask-law,
   Below,
+  below-last,
+  below-at,
   joined,
   parted,
   overlapped,
@@ -248,22 +250,13 @@ text-of n h =
 digit-byte : (d : ℕ) → d < 16 → digitOf d < 256
 digit-byte d h = rw (← digit-text d h) (omega arith)
 
-below-last : (xs : List ℕ) (b : ℕ) → Below 256 xs → b < 256 → Below 256 (xs ++ (b ∷ []))
-below-last [] b h small = (small, tt)
-below-last (x ∷ xs) b h small = (h .0, below-last xs b (h .1) small)
-
 digits-below : (k n : ℕ) → Below 256 (digitsOf k n)
 unfolding digitsOf
 digits-below zero n = tt
-digits-below (suc k) n = below-last (digitsOf k (n / 16)) (digitOf (n % 16)) (digits-below k (n / 16)) (digit-byte (n % 16) (omega arith))
-
-below-bytes : (xs : List ℕ) → Below 256 xs → AreBytes xs
-below-bytes [] h i = lit< tt
-below-bytes (x ∷ xs) h zero = h .0
-below-bytes (x ∷ xs) h (suc i) = below-bytes xs (h .1) i
+digits-below (suc k) n = below-last 256 (digitsOf k (n / 16)) (digitOf (n % 16)) (digits-below k (n / 16)) (digit-byte (n % 16) (omega arith))
 
 pub text-bytes : (n : ℕ) → bytes 8 (value (digitsOf 8 n)) ≡ digitsOf 8 n
-text-bytes n = rw length-digits at (bytes-value (digitsOf 8 n) (below-bytes (digitsOf 8 n) (digits-below 8 n)))
+text-bytes n = rw length-digits at (bytes-value (digitsOf 8 n) (below-at 256 (lit< tt) (digitsOf 8 n) (digits-below 8 n)))
 
 -- ---- the first eight digits of a frame hold its call and its stream
 

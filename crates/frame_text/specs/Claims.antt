@@ -8,7 +8,7 @@ use Rattle.model.specs.declared.Call.{Call}
 use Rattle.model.specs.Stations.{arguments, allWords}
 use Rattle.model.specs.Store.{fresh, storeAfter}
 use Rattle.model.specs.Claims.{areWords}
-use Rattle.frame_text.specs.declared.Frame.the-variants.{Made}
+use Rattle.numbering.specs.declared.Frame.the-variants.{Made}
 use Rattle.frame_text.specs.Digits.{hexValue, digitsOf}
 use Rattle.frame_text.specs.Frames.{frameOf}
 use Rattle.frame_text.specs.Program.{lines, output, requestsIn, storeFrom}

@@ -4,8 +4,9 @@ use mathlib.Core.Bool.{cond}
 use mathlib.Core.List.{List, [], _∷_, _++_}
 use lib.Dec.{eqb}
 use Rattle.model.specs.Store.{Request, StoreOutcome, fresh, onStore}
-use Rattle.frame_text.specs.declared.Frame.{Frame}
-use Rattle.frame_text.specs.declared.Frame.the-variants.{Made, Bad}
+use Rattle.numbering.specs.declared.Frame.{Frame}
+use Rattle.numbering.specs.declared.Frame.the-variants.{Made, Bad}
+use Rattle.numbering.specs.Numbers.{requestOf}
 use Rattle.frame_text.specs.Frames.{frameOf}
 use Rattle.frame_text.specs.Answers.{lineFeed, answerText, badText}
 
@@ -45,11 +46,6 @@ unfoldable pub output : List ℕ → List ℕ
 output input = outputFrom fresh (lines input)
 
 -- the calls of the lines that are frames, and the store after all lines
-
-unfoldable pub requestOf : Frame → List Request
-requestOf (Made stream c) = record { stream = stream; made = c } ∷ []
-requestOf Bad = []
-
 unfoldable pub requestsIn : List (List ℕ) → List Request
 requestsIn [] = []
 requestsIn (line ∷ rest) = requestOf (frameOf line) ++ requestsIn rest

@@ -2,27 +2,20 @@
 pub mod claims;
 
 ghost use mathlib.Core.Path.{_≡_};
-ghost use mathlib.Core.List.{[], _∷_};
 ghost use Prim.Native.Nat.{_+_, _<_, _≤_};
 ghost use lib.Dec.{T};
 ghost use lib.ListN.{length};
 ghost use Rattle.little.specs.Little.{value, part, written};
+ghost use Rattle.numbering.specs.Numbers.{frameArguments};
 ghost use Rattle.frame_text.specs.Digits.{digit, allDigits, digitOf, hexValue, digitsOf};
-ghost use Rattle.frame_text.specs.Frames.{wordDigits, frameLength, allZero, madeIf, numbered, frameOf};
+ghost use Rattle.frame_text.specs.Frames.{wordDigits, frameLength, argumentsTo, frameOf};
 ghost use Rattle.frame_text.specs.Answers.{textLength, badLength, answerText, badText};
 use model::Answer;
-use model::Call;
-use model::Entry;
-use model::Plan;
+use numbering::ARGUMENTS;
+use numbering::Frame;
 
-// What a line is: a call made on a stream, or no frame.
-pub enum Frame {
-    Made { stream: u32, call: Call },
-    Bad,
-}
-
-// A call's and a stream's two digits, and eight for each of five arguments.
-pub const FRAME_LENGTH: usize = 44;
+// A call's and a stream's two digits, and eight for each argument.
+pub const FRAME_LENGTH: usize = 4 + 8 * ARGUMENTS;
 
 // The longest text of a line: an answer's 26 digits and a line feed. No byte of input prints more.
 pub const TEXT_LENGTH: usize = 27;
@@ -47,15 +40,7 @@ pub fn parse(line: &[u8]) -> Frame
     }
     // Eight digits are read at once: here the call's two, the stream's two, and four that are read again.
     let head = word_at(line, 0);
-    by_number(
-        head / 16777216,
-        head / 65536 % 256,
-        word_at(line, 4),
-        word_at(line, 12),
-        word_at(line, 20),
-        word_at(line, 28),
-        word_at(line, 36),
-    )
+    numbering::by_number(head / 16777216, head / 65536 % 256, arguments_in(line))
 }
 
 // Writes an answer's line, TEXT_LENGTH bytes, into out from index `at` on.
@@ -80,94 +65,34 @@ pub fn write_bad(out: &mut [u8], at: usize)
     out[at + 2] = LINE_FEED;
 }
 
-// The frame of a call's number, a stream and five arguments.
-pub fn by_number(number: u32, stream: u32, a: u32, b: u32, c: u32, d: u32, e: u32) -> Frame
-    ensures { λ r. ⌜ r ≡ numbered number stream a b c d e ⌝ }
+// The arguments in a line of digits.
+fn arguments_in(line: &[u8]) -> [u32; ARGUMENTS]
+    requires { ⌜ (length (now line) ≡ frameLength) × T (allDigits (now line)) ⌝ }
+    ensures { λ r. ⌜ r ≡ argumentsTo (now (line .entry)) frameArguments ⌝ }
 {
-    match number {
-        1 => made_if(all_zero(0, 0, 0, 0, e), stream, open_call(a, b, c, d)),
-        2 => made_if(true, stream, lot_call(a, b, c, d, e)),
-        3 => made_if(
-            all_zero(0, 0, c, d, e),
-            stream,
-            Call::Enter(Entry::Run { right: a, wrong: b }),
-        ),
-        4 => made_if(
-            all_zero(0, 0, c, d, e),
-            stream,
-            Call::Enter(Entry::Block { heard: a, wrong: b }),
-        ),
-        5 => made_if(
-            all_zero(0, 0, c, d, e),
-            stream,
-            Call::Enter(Entry::Stop { why: a, days: b }),
-        ),
-        6 => made_if(all_zero(a, b, c, d, e), stream, Call::Back),
-        7 => made_if(all_zero(0, b, c, d, e), stream, Call::Ask(a)),
-        8 => made_if(all_zero(a, b, c, d, e), stream, Call::Read),
-        _ => Frame::Bad,
+    let mut arguments = [0u32; ARGUMENTS];
+    let mut i = 0;
+    while i < ARGUMENTS {
+        arguments[i] = word_at(line, 4 + 8 * i);
+        i += 1;
     }
+    arguments
 }
 
-fn open_call(kind: u32, option: u32, a: u32, b: u32) -> Call
-    ensures { λ r. ⌜ r ≡ Call.Open (record { kind = kind; option = option; a = a; b = b }) ⌝ }
-{
-    Call::Open(Plan { kind, option, a, b })
-}
-
-fn lot_call(label: u32, size: u32, sample: u32, wrong: u32, wrong_in_all: u32) -> Call
-    ensures { λ r. ⌜ r ≡ Call.Enter (Entry.Lot label size sample wrong «wrong_in_all») ⌝ }
-{
-    Call::Enter(Entry::Lot {
-        label,
-        size,
-        sample,
-        wrong,
-        wrong_in_all,
-    })
-}
-
-// A call whose unused arguments are 0; no frame where one is not.
-fn made_if(unused_zero: bool, stream: u32, call: Call) -> Frame
-    ensures { λ r. ⌜ r ≡ madeIf «unused_zero» stream call ⌝ }
-{
-    if unused_zero {
-        Frame::Made { stream, call }
-    } else {
-        Frame::Bad
-    }
-}
-
-fn all_zero(a: u32, b: u32, c: u32, d: u32, e: u32) -> bool
-    ensures { λ r. ⌜ r ≡ allZero (a ∷ b ∷ c ∷ d ∷ e ∷ []) ⌝ }
-{
-    if a != 0 {
-        return false;
-    }
-    if b != 0 {
-        return false;
-    }
-    if c != 0 {
-        return false;
-    }
-    if d != 0 {
-        return false;
-    }
-    e == 0
-}
-
-// Whether the 44 bytes of a line are digits: three times sixteen, of which the last begin with four tested before.
+// Whether the bytes of a line as long as a frame are digits: sixteen after sixteen, and the last sixteen, of which some may have been
+// tested before.
 fn all_digits(line: &[u8]) -> bool
     requires { ⌜ length (now line) ≡ frameLength ⌝ }
     ensures { λ r. ⌜ r ≡ allDigits (now (line .entry)) ⌝ }
 {
-    if !digits_at(line, 0) {
-        return false;
+    let mut at = 0;
+    while at + TESTED < FRAME_LENGTH {
+        if !digits_at(line, at) {
+            return false;
+        }
+        at += TESTED;
     }
-    if !digits_at(line, 16) {
-        return false;
-    }
-    digits_at(line, 28)
+    digits_at(line, FRAME_LENGTH - TESTED)
 }
 
 // Whether the sixteen bytes of line from index `at` on are digits.

@@ -1,4 +1,4 @@
--- A list of calls as numbers: seven a call, its number as in a frame, its stream, five arguments, unused ones 0; four an answer.
+-- A list of calls as numbers: for a call its number as in a frame, its stream and its arguments, unused ones 0; four for an answer.
 -- Assumes nothing.
 use Prim.Native.Nat.{ℕ, zero, suc, _+_, _*_, _/_, _<_}
 use mathlib.Core.Path.{_≡_}
@@ -6,17 +6,17 @@ use mathlib.Core.Bool.{Bool, true, false, _&&_}
 use mathlib.Core.List.{List, [], _∷_, _++_}
 use lib.Dec.{eqb}
 use lib.ListN.{length, getD}
+use Rattle.little.specs.Little.{part}
 use Rattle.model.specs.declared.Answer.{Answer}
 use Rattle.model.specs.Sizes.{streams}
 use Rattle.model.specs.Store.{Request, fresh, storeAfter, answersTo}
-use Rattle.model.specs.Claims.{DemandThree}
-use Rattle.frame_text.specs.declared.Frame.{Frame}
-use Rattle.frame_text.specs.declared.Frame.the-variants.{Made, Bad}
-use Rattle.frame_text.specs.Frames.{numbered}
-use Rattle.frame_text.specs.Program.{requestOf}
+use Rattle.model.specs.Claims.{PastCall, on, DemandThree}
+use Rattle.numbering.specs.declared.Frame.{Frame}
+use Rattle.numbering.specs.declared.Frame.the-variants.{Made, Bad}
+use Rattle.numbering.specs.Numbers.{frameArguments, numbered, requestOf}
 
 abbrev pub callLength : ℕ
-callLength = 7
+callLength = 2 + frameArguments
 
 abbrev pub answerLength : ℕ
 answerLength = 4
@@ -24,9 +24,7 @@ answerLength = 4
 -- the i-th call of a list of numbers
 unfoldable pub frameAt : List ℕ → ℕ → Frame
 frameAt ns i =
-    numbered (getD ns (callLength * i) 0) (getD ns (callLength * i + 1) 0) (getD ns (callLength * i + 2) 0)
-    (getD ns (callLength * i + 3) 0) (getD ns (callLength * i + 4) 0) (getD ns (callLength * i + 5) 0)
-    (getD ns (callLength * i + 6) 0)
+    numbered (getD ns (callLength * i) 0) (getD ns (callLength * i + 1) 0) (part (callLength * i + 2) frameArguments ns)
 
 unfoldable pub isMade : Frame → Bool
 isMade (Made stream c) = true
@@ -57,12 +55,22 @@ isList ns answers =
     && eqb (length answers) (answerLength * callsIn ns)
     && allMade ns (callsIn ns)
 
--- what a list of calls does: a list that is none is refused without a write; else each call is made, one after the other, and what
--- comes of it on a fresh store is demand 3
+-- the first calls, each with the refusal number that stands among the answers
+
+unfoldable pub pastOf : Frame → ℕ → List PastCall
+pastOf (Made stream c) refusal = record { request = on stream c; refusal = refusal } ∷ []
+pastOf Bad refusal = []
+
+unfoldable pub pastIn : List ℕ → List ℕ → ℕ → List PastCall
+pastIn ns answers zero = []
+pastIn ns answers (suc i) = pastIn ns answers i ++ pastOf (frameAt ns i) (getD answers (answerLength * i) 0)
+
+-- what a list of calls does: a list that is none is refused without a write; else each call is made, one after the other, and of the
+-- answers and the store that it leaves, where it began on a fresh one, demand 3 holds
 pub record Listed (store ns answers : List ℕ) (made : Bool) (storeThen answersThen : List ℕ) : Type 0 where
   pub taken : made ≡ isList ns answers
   pub kept : made ≡ false → (storeThen ≡ store) × (answersThen ≡ answers)
   pub storeMade : made ≡ true → storeThen ≡ storeAfter store (requestsTo ns (callsIn ns))
   pub answersMade : made ≡ true → answersThen ≡ numbersOf (answersTo store (requestsTo ns (callsIn ns)))
   pub demandThree : made ≡ true → store ≡ fresh → (stream : ℕ) → stream < streams
-      → DemandThree (requestsTo ns (callsIn ns)) stream
+      → DemandThree (pastIn ns answersThen (callsIn ns)) storeThen stream

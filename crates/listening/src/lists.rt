@@ -6,14 +6,15 @@ ghost use Prim.Native.Nat.{_+_, _*_, _≤_, _<_};
 ghost use lib.ListN.{length};
 ghost use Rattle.little.specs.Little.{written};
 ghost use Rattle.model.specs.Store.{storeAfter, answersTo};
-ghost use Rattle.frame_text.specs.Program.{requestOf};
+ghost use Rattle.numbering.specs.Numbers.{requestOf};
 ghost use Rattle.listening.specs.Lists.{callLength, answerLength, frameAt, isMade, allMade, requestsTo, numbersOf, Listed};
 use crate::make;
-use frame_text::Frame;
 use model::Answer;
+use numbering::ARGUMENTS;
+use numbering::Frame;
 
-// So many numbers hold a call: its number, its stream, five arguments.
-pub const CALL_LENGTH: usize = 7;
+// So many numbers hold a call: its number, its stream, its arguments.
+pub const CALL_LENGTH: usize = 2 + ARGUMENTS;
 
 // So many hold an answer: its refusal, three numbers.
 pub const ANSWER_LENGTH: usize = 4;
@@ -85,15 +86,13 @@ fn frame_at(calls: &[u32], i: usize) -> Frame
     ensures { λ r. ⌜ r ≡ frameAt (now (calls .entry)) i ⌝ }
 {
     let at = CALL_LENGTH * i;
-    frame_text::by_number(
-        calls[at],
-        calls[at + 1],
-        calls[at + 2],
-        calls[at + 3],
-        calls[at + 4],
-        calls[at + 5],
-        calls[at + 6],
-    )
+    let mut arguments = [0u32; ARGUMENTS];
+    let mut k = 0;
+    while k < ARGUMENTS {
+        arguments[k] = calls[at + 2 + k];
+        k += 1;
+    }
+    numbering::by_number(calls[at], calls[at + 1], arguments)
 }
 
 fn is_made(frame: Frame) -> bool

@@ -20,7 +20,7 @@ use Rattle.model.specs.Stations.{Station, unopened, opened, arguments, a
 use Rattle.model.specs.Calls.{firstOf, refusals, refusalOf, changed, withoutNewest, call, admissible, admissibleStation}
 use Rattle.model.specs.Area.{zeros, areaOf, onArea}
 use Rattle.model.specs.Store.{Request, fresh, areaAt, onStore, storeAfter, answersTo}
-use Rattle.model.specs.Claims.{history, afterAccepted, afterPastCall, standing, on, reentered, remade, AllTaken, onAll, areWords, standingAfter, here, there, StationBackward, EveryList}
+use Rattle.model.specs.Claims.{history, afterAccepted, afterPastCall, standing, on, reentered, remade, AllTaken, onAll, areWords, there, StationBackward, EveryList}
 use Rattle.model.proofs.Booleans.{both-of}
 use Rattle.model.proofs.Allowed.{Newest, newest-of}
 use Rattle.model.proofs.AreaReading.{reading-of-area}
@@ -234,7 +234,7 @@ station-backward (opened p es) area t e =
 
 -- demand 3
 pub every-list : EveryList
-unfolding standingAfter here there
+unfolding there
 every-list calls words stream known =
     let holds-here = standing-holds stream known calls fresh unopened (fresh-holds stream known) words in
     let there-left = remade-leaves stream known (standing stream unopened (history fresh calls)) (holds-here .kept) in
@@ -242,14 +242,8 @@ every-list calls words stream known =
     record {
       sameArea = same;
       taken = there-left .taken;
-      answersAlike =
-          λ more.
-          same-answers stream more (storeAfter fresh (remade stream (standing stream unopened (history fresh calls))))
-          (storeAfter fresh calls) (holds-here .sized ∙ sym (there-left .left .sized)) same;
-      backwards =
-          station-backward (standing stream unopened (history fresh calls)) (areaAt stream (storeAfter fresh calls)) (holds-here .kept)
-          (holds-here .held);
+      answersAlike = λ more. same-answers stream more _ _ (holds-here .sized ∙ sym (there-left .left .sized)) same;
+      backwards = station-backward _ _ (holds-here .kept) (holds-here .held);
       standsThere = holds-here .held;
-      byTheRules =
-          λ c. own-answer stream known (storeAfter fresh calls) (standing stream unopened (history fresh calls)) c holds-here;
+      byTheRules = λ c. own-answer stream known _ _ c holds-here;
     }

@@ -151,29 +151,24 @@ unfoldable pub areWords : List Request → Bool
 areWords [] = true
 areWords (r ∷ rs) = allWords (arguments (r .made)) && areWords rs
 
--- the standing list of a stream after a list of calls from a fresh store
-unfoldable pub standingAfter : ℕ → List Request → Station
-standingAfter stream calls = standing stream unopened (history fresh calls)
+-- the other store for a stream, made of its standing list alone
+unfoldable pub there : ℕ → Station → List ℕ
+there stream st = storeAfter fresh (remade stream st)
 
--- the store after a list of calls, and the other store for a stream
-unfoldable pub here : List Request → List ℕ
-here calls = storeAfter fresh calls
-
-unfoldable pub there : ℕ → List Request → List ℕ
-there stream calls = storeAfter fresh (remade stream (standingAfter stream calls))
-
+-- what the calls made from a fresh store, with the refusal numbers that they got, and the store that they left are to be for a stream:
 -- the whole area is equal in both stores; each call made on the other store is accepted; whatever calls on the stream follow, each
 -- gives the same whole answer on both; and the figures stored are those worked out backwards from the standing entries. The area is
 -- the one that the rules give for the standing entries, and the next call answers by the rules: a store never written is no way out
-pub record DemandThree (calls : List Request) (stream : ℕ) : Type 0 where
-  pub sameArea : areaAt stream (here calls) ≡ areaAt stream (there stream calls)
-  pub taken : AllTaken (answersTo fresh (remade stream (standingAfter stream calls)))
+pub record DemandThree (past : List PastCall) (left : List ℕ) (stream : ℕ) : Type 0 where
+  pub sameArea : areaAt stream left ≡ areaAt stream (there stream (standing stream unopened past))
+  pub taken : AllTaken (answersTo fresh (remade stream (standing stream unopened past)))
   pub answersAlike : (more : List Call)
-      → answersTo (here calls) (onAll stream more) ≡ answersTo (there stream calls) (onAll stream more)
-  pub backwards : StationBackward (standingAfter stream calls) (areaAt stream (here calls))
-  pub standsThere : areaAt stream (here calls) ≡ areaOf (standingAfter stream calls)
-  pub byTheRules : (c : Call) → onStore (here calls) (on stream c) .answer ≡ call (standingAfter stream calls) c .answer
+      → answersTo left (onAll stream more) ≡ answersTo (there stream (standing stream unopened past)) (onAll stream more)
+  pub backwards : StationBackward (standing stream unopened past) (areaAt stream left)
+  pub standsThere : areaAt stream left ≡ areaOf (standing stream unopened past)
+  pub byTheRules : (c : Call) → onStore left (on stream c) .answer ≡ call (standing stream unopened past) c .answer
 
 -- for every list of calls with 32-bit arguments, and every stream
 abbrev pub EveryList : Type 0
-EveryList = (calls : List Request) → T (areWords calls) → (stream : ℕ) → stream < streams → DemandThree calls stream
+EveryList = (calls : List Request) → T (areWords calls) → (stream : ℕ) → stream < streams
+    → DemandThree (history fresh calls) (storeAfter fresh calls) stream

@@ -1,44 +1,49 @@
-use mathlib.Core.Path.{_≡_, refl, sym, _∙_}
-use mathlib.Core.Bool.{Bool, true, false}
-use mathlib.Core.List.{List}
-use Prim.Native.Nat.{ℕ}
+-- The loop's invariant: the bytes before `at` are digits. After it, the last sixteen decide. The measure is what is left of the line.
+use mathlib.Core.Path.{_≡_, sym, ap, _∙_}
+use Prim.Native.Nat.{_-_, _≤_}
+use native.Mathlib.Omega.{arith}
 use borrow.Author.Tests.{not-true, not-false}
 use lib.Dec.{T}
-use lib.ListN.{length}
-use Rattle.little.specs.Little.{part}
-use Rattle.model.proofs.Booleans.{holds-of, of-holds}
+use lib.ListN.{take}
+use lib.Seq.{take-take, take-all}
+use Rattle.model.proofs.Booleans.{of-holds}
 use Rattle.frame_text.specs.Digits.{allDigits}
 use Rattle.frame_text.specs.Frames.{frameLength}
-use Rattle.frame_text.proofs.Laws.{digits-lost, digits-covered}
+use Rattle.frame_text.proofs.Laws.{digits-take, digits-lost, digits-on}
 use borrow.Author.Needs.{needs}
 use Rattle.frame_text.proofs.all_digits.Statement.{statement}
 use Rattle.frame_text.proofs.all_digits.Tie as tie
 
--- where the first 32 bytes are digits, the last sixteen decide
-last-decides : (line : List ℕ) → length line ≡ frameLength → T (allDigits (part 0 16 line)) → T (allDigits (part 16 16 line))
-    → allDigits (part 28 16 line) ≡ allDigits line
-last-decides line long first second = go (allDigits (part 28 16 line)) refl
-  where
-    go : (t : Bool) → allDigits (part 28 16 line) ≡ t → t ≡ allDigits line
-    go true e = sym (holds-of _ (digits-covered line long first second (of-holds _ e)))
-    go false e = sym (digits-lost 28 16 line e)
+abbrev Inv-loop : tie.InvT-loop
+Inv-loop line at₀ at = (at ≤ frameLength) × T (allDigits (take at line))
 
-returns : tie.Need-returns
-returns c = sym (digits-lost 0 16 _ (sym (c .before .digits-at .ensures) ∙ not-true _ (c .if1 .taken)))
+abbrev μ-loop : tie.MeasureT-loop
+μ-loop line at₀ at = frameLength - at
 
-returns-2 : tie.Need-returns-2
-returns-2 c = sym (digits-lost 16 16 _ (sym (c .before .digits-at2 .ensures) ∙ not-true _ (c .if2 .taken)))
+loop-holds : tie.Need-loop-holds Inv-loop μ-loop
+unfolding allDigits
+loop-holds c = (omega arith, tt)
 
-returns-3 : tie.Need-returns-3
-returns-3 c =
-    let second = c .before .before in
-    let first = second .before .before in
-    let start = first .before .before in
-    let line = start .args .line .now in
-    c .digits-at3 .ensures
-    ∙ last-decides line (start .pre)
-    (of-holds _ (sym (first .digits-at .ensures) ∙ not-false _ (second .before .if1 .left)))
-    (of-holds _ (sym (second .digits-at2 .ensures) ∙ not-false _ (c .before .if2 .left)))
+returns : tie.Need-returns Inv-loop μ-loop
+returns c = sym (digits-lost _ 16 _ (sym (c .before .digits-at .ensures) ∙ not-true _ (c .if1 .taken)))
+
+loop-less : tie.Need-loop-less Inv-loop μ-loop
+loop-less c = omega arith
+
+loop-again : tie.Need-loop-again Inv-loop μ-loop
+loop-again c =
+    (omega arith, of-holds _ (digits-on _ 16 _ (c .before .before .before .loop .inv .1) ∙ sym (c .before .digits-at .ensures) ∙ not-false _ (c .if1 .left)))
+
+returns-2 : tie.Need-returns-2 Inv-loop μ-loop
+returns-2 c =
+    let at-loop = c .before .before in
+    let line = at-loop .before .before .args .line .now in
+    let first : T (allDigits (take (frameLength - 16) line)) =
+    rw (take-take (frameLength - 16) (at-loop .loop .at) line (omega arith)) at (digits-take (frameLength - 16) _ (at-loop .loop .inv .1)) in
+    c .digits-at2 .ensures ∙ sym (digits-on (frameLength - 16) 16 line first) ∙ ap allDigits (take-all frameLength line (omega arith))
 
 pub all-digits-spec : {M : Type 1} → statement M
-all-digits-spec = tie.close (tie.spec (λ c κs. search needs) returns (λ c κs. search needs) returns-2 (λ c κs. search needs) returns-3)
+all-digits-spec =
+    tie.close
+    (tie.spec Inv-loop μ-loop loop-holds (λ c. search needs) (λ c κs. search needs) returns (λ c. search needs) loop-less loop-again
+    (λ c. search needs) (λ c κs. search needs) returns-2)

@@ -1,4 +1,4 @@
-use Rattle.frame_text.proofs.Small.{frames-are-small}
+use Rattle.frame_text.proofs.Requests.{frames-are-small}
 use Rattle.frame_text.proofs.claims.frames_are_small.Statement.{statement}
 use Rattle.frame_text.proofs.claims.frames_are_small.Tie as tie
 

@@ -1,16 +1,61 @@
-use Rattle.listening.specs.Lists.{frameAt}
+-- The loop's invariant: the first k places of the array hold the call's first k arguments. The measure is how many are left.
+use mathlib.Core.Path.{_≡_, refl, sym, ap, _∙_}
+use mathlib.Core.List.{List, [], _∷_, _++_}
+use Prim.Native.Nat.{ℕ, suc, _+_, _*_, _-_, _≤_, _<_}
+use native.Mathlib.Numerals.{add-one}
+use native.Mathlib.Omega.{arith}
+use lib.ListN.{length, getD, take, drop, length-set, length-drop}
+use lib.Seq.{take-suc, take-suc-set, take-all, getD-drop}
+use Rattle.little.specs.Little.{part}
+use Rattle.numbering.specs.Numbers.{frameArguments}
+use Rattle.listening.specs.Lists.{callLength, frameAt}
 use borrow.Author.Needs.{needs}
 use Rattle.listening.proofs.lists.frame_at.Statement.{statement}
 use Rattle.listening.proofs.lists.frame_at.Tie as tie
 
-returns : tie.Need-returns
+abbrev Inv-loop : tie.InvT-loop
+Inv-loop calls i at arguments₀ k₀ arguments k =
+    (k ≤ frameArguments) × (length arguments ≡ frameArguments) × (take k arguments ≡ part (callLength * i + 2) k calls)
+
+abbrev μ-loop : tie.MeasureT-loop
+μ-loop calls i at arguments₀ k₀ arguments k = frameArguments - k
+
+part-next : (at k : ℕ) (s : List ℕ) → at + k < length s → part at (suc k) s ≡ part at k s ++ (getD s (at + k) 0 ∷ [])
+unfolding part
+part-next at k s h = rw (take-suc (drop at s) k 0 (simp length-drop (omega arith)), getD-drop at s k 0)
+
+loop-holds : tie.Need-loop-holds Inv-loop μ-loop
+unfolding part
+loop-holds c = (omega arith, refl, refl)
+
+loop-less : tie.Need-loop-less Inv-loop μ-loop
+loop-less c = omega arith
+
+loop-again : tie.Need-loop-again Inv-loop μ-loop
+loop-again c =
+    let turn = c .before .before .loop in
+    let start = c .before .before .before .before .args in (
+      omega arith,
+      rw length-set (turn .inv .1),
+      rw (
+        add-one (turn .k),
+        take-suc-set (turn .arguments) (turn .k) _ (omega arith),
+        turn .inv .2,
+        part-next (callLength * start .i + 2) (turn .k) (start .calls .now) (omega arith),
+      ),
+    )
+
+returns : tie.Need-returns Inv-loop μ-loop
 unfolding frameAt
-returns c = c .by-number .ensures
+returns c =
+    let turn = c .before .before .before .before .loop in
+    let all : turn .k ≡ frameArguments = omega arith in
+    let read = sym (take-all (turn .k) (turn .arguments) (omega arith)) ∙ turn .inv .2 in
+    c .by-number .ensures ∙ rw (read, all)
 
 pub frame-at-spec : {M : Type 1} → statement M
 frame-at-spec =
     tie.close
-    (tie.spec (λ c. search needs) (λ c. search needs) (λ c. search needs) (λ c. search needs) (λ c. search needs) (λ c. search needs)
-    (λ c. search needs) (λ c. search needs) (λ c. search needs) (λ c. search needs) (λ c. search needs) (λ c. search needs) (λ c. search needs)
-    (λ c. search needs) (λ c. search needs) (λ c. search needs) (λ c. search needs) (λ c. search needs) (λ c. search needs) (λ c. search needs)
-    (λ c. search needs) (λ c κs. search needs) returns)
+    (tie.spec Inv-loop μ-loop (λ c. search needs) loop-holds (λ c. search needs) (λ c. search needs) (λ c. search needs)
+    (λ c. search needs) (λ c. search needs) (λ c. search needs) (λ c. search needs) loop-less loop-again (λ c. search needs)
+    (λ c. search needs) (λ c. search needs) (λ c. search needs) (λ c. search needs) (λ c κs. search needs) returns)

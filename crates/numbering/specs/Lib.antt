@@ -1,0 +1,2 @@
+-- Paper 01's calls by number.
+pub mod Numbers

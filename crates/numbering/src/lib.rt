@@ -1,0 +1,94 @@
+// The calls by number, paper 01, "Hexadecimal frames": which number is which call, and which of its arguments it uses.
+ghost use mathlib.Core.Path.{_≡_};
+ghost use Rattle.numbering.specs.Numbers.{frameArguments, slot, uses, unusedZero, numbered};
+use model::Call;
+use model::Entry;
+use model::Plan;
+
+// So many arguments has every call; it uses some of them.
+pub const ARGUMENTS: usize = 5;
+
+// What numbers stand for: a call made on a stream, or none.
+pub enum Frame {
+    Made { stream: u32, call: Call },
+    Bad,
+}
+
+// The frame of a call's number, a stream and the arguments.
+pub fn by_number(number: u32, stream: u32, arguments: [u32; ARGUMENTS]) -> Frame
+    ensures { λ r. ⌜ r ≡ numbered number stream arguments ⌝ }
+{
+    if !unused_zero(number, arguments) {
+        return Frame::Bad;
+    }
+    let a = arguments[0];
+    let b = arguments[1];
+    match number {
+        1 => made(stream, open_call(arguments)),
+        2 => made(stream, lot_call(arguments)),
+        3 => made(stream, Call::Enter(Entry::Run { right: a, wrong: b })),
+        4 => made(stream, Call::Enter(Entry::Block { heard: a, wrong: b })),
+        5 => made(stream, Call::Enter(Entry::Stop { why: a, days: b })),
+        6 => made(stream, Call::Back),
+        7 => made(stream, Call::Ask(a)),
+        8 => made(stream, Call::Read),
+        _ => Frame::Bad,
+    }
+}
+
+fn made(stream: u32, call: Call) -> Frame
+    ensures { λ r. ⌜ r ≡ Frame.Made stream call ⌝ }
+{
+    Frame::Made { stream, call }
+}
+
+fn open_call(arguments: [u32; ARGUMENTS]) -> Call
+    ensures { λ r. ⌜ r ≡ Call.Open (record { kind = slot 1 arguments; option = slot 2 arguments; a = slot 3 arguments; b = slot 4 arguments }) ⌝ }
+{
+    Call::Open(Plan {
+        kind: arguments[0],
+        option: arguments[1],
+        a: arguments[2],
+        b: arguments[3],
+    })
+}
+
+fn lot_call(arguments: [u32; ARGUMENTS]) -> Call
+    ensures { λ r. ⌜ r ≡ Call.Enter (Entry.Lot (slot 1 arguments) (slot 2 arguments) (slot 3 arguments) (slot 4 arguments) (slot 5 arguments)) ⌝ }
+{
+    Call::Enter(Entry::Lot {
+        label: arguments[0],
+        size: arguments[1],
+        sample: arguments[2],
+        wrong: arguments[3],
+        wrong_in_all: arguments[4],
+    })
+}
+
+// Whether each argument that the call does not use is 0.
+fn unused_zero(number: u32, arguments: [u32; ARGUMENTS]) -> bool
+    ensures { λ r. ⌜ r ≡ unusedZero number arguments frameArguments ⌝ }
+{
+    let mut zero = true;
+    let mut i = 0;
+    while i < ARGUMENTS {
+        zero = zero & (is_used(number, i + 1) | (arguments[i] == 0));
+        i += 1;
+    }
+    zero
+}
+
+// Whether the call uses a slot, counted from 1.
+fn is_used(number: u32, slot: usize) -> bool
+    ensures { λ r. ⌜ r ≡ uses number slot ⌝ }
+{
+    match number {
+        1 => slot <= 4,
+        2 => slot <= 5,
+        3 => slot <= 2,
+        4 => slot <= 2,
+        5 => slot <= 2,
+        7 => slot <= 1,
+        _ => false,
+    }
+}
