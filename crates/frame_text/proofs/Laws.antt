@@ -8,7 +8,7 @@ use native.Mathlib.Nat.{add-zero, zero-add, add-suc, suc-add, pow-suc}
 use native.Mathlib.Omega.{arith}
 use borrow.Author.Tests.{ltb-true, ltb-false, leb-true, le-leb, lt-leb}
 use lib.Dec.{T, leb, ltb, lit<}
-use lib.ListN.{length, take, drop, set, length-append, length-drop, take-append-drop}
+use lib.ListN.{length, take, drop, set, length-append}
 use lib.Seq.{take-add}
 use Rattle.little.specs.Little.{part, written}
 use Rattle.little.proofs.Laws.{set-written, written-next, length-written}
@@ -16,7 +16,6 @@ use Rattle.model.specs.declared.Answer.{Answer}
 use Rattle.model.specs.Stations.{within}
 use Rattle.model.proofs.Booleans.{both-of, both, holds-of, of-holds, never-both}
 use Rattle.frame_text.specs.Digits.{digit, allDigits, digitValue, digitOf, goneOn, hexValue, digitsOf}
-use Rattle.frame_text.specs.Frames.{frameLength}
 use Rattle.frame_text.specs.Answers.{textLength, badLength, answerText, badText}
 use Rattle.frame_text.specs.Claims.{ReadAsWritten}
 

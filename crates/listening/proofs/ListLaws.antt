@@ -1,14 +1,14 @@
 -- Lists of calls, one call after the other. Assumes nothing.
 use Prim.Native.Nat.{ℕ, zero, suc, _+_, _*_, _/_, _^_, _≤_, _<_}
 use mathlib.Core.Path.{_≡_, refl, sym, ap, _∙_}
-use mathlib.Core.Bool.{Bool, true, false, _&&_}
-use mathlib.Core.List.{List, [], _∷_, _++_, append-nil, append-assoc}
+use mathlib.Core.Bool.{Bool, true, false}
+use mathlib.Core.List.{List, [], _∷_, _++_, append-nil}
 use native.Mathlib.Numerals.{add-one}
 use native.Mathlib.Omega.{arith}
-use lib.Dec.{T, eqb, leb, lit<}
+use lib.Dec.{T, leb, lit<}
 use borrow.Author.Tests.{leb-true, leb-false, eq-eqb, ne-eqb}
 use lib.ListN.{length, getD, take, drop, length-append}
-use lib.Seq.{drop-length, getD-drop, getD-append-add}
+use lib.Seq.{drop-length, getD-drop}
 use Rattle.little.specs.Little.{part, written}
 use Rattle.little.proofs.Laws.{written-next, written-nil}
 use Rattle.model.specs.declared.Answer.{Answer}
@@ -22,7 +22,7 @@ use Rattle.numbering.specs.declared.Frame.{Frame}
 use Rattle.numbering.specs.declared.Frame.the-variants.{Made, Bad}
 use Rattle.numbering.specs.Numbers.{frameArguments, requestOf}
 use Rattle.numbering.proofs.Small.{numbered-small, words-before}
-use Rattle.listening.specs.Lists.{callLength, answerLength, frameAt, isMade, allMade, requestsTo, numbersOf, callsIn, isList, pastOf, pastIn, Listed}
+use Rattle.listening.specs.Lists.{callLength, answerLength, frameAt, isMade, allMade, requestsTo, numbersOf, callsIn, isList, pastIn, Listed}
 
 answers-after : (store : List ℕ) (first second : List Request)
     → answersTo store (first ++ second) ≡ answersTo store first ++ answersTo (storeAfter store first) second
@@ -101,41 +101,13 @@ module _ (store ns : List ℕ) where
       let full : 0 + length (numbersOf (answersTo store (requestsTo ns n))) ≡ length answers = omega (arith, length-numbers n e) in
       rw (full, drop-length answers) (append-nil (numbersOf (answersTo store (requestsTo ns n))))
 
--- the calls, and the refusal numbers among their answers, are their history
-
-history-after : (store : List ℕ) (first second : List Request)
-    → history store (first ++ second) ≡ history store first ++ history (storeAfter store first) second
-unfolding history storeAfter
-history-after store [] second = refl
-history-after store (r ∷ first) second =
-    ap (λ (rest : List PastCall). record { request = r; refusal = onStore store r .answer .refusal } ∷ rest)
-    (history-after (onStore store r .store) first second)
-
-past-one : (store : List ℕ) (f : Frame) (rest : List ℕ)
-    → pastOf f (getD (numbersOf (answersTo store (requestOf f)) ++ rest) 0 0) ≡ history store (requestOf f)
-unfolding pastOf requestOf history answersTo numbersOf
-past-one store (Made stream c) rest = refl
-past-one store Bad rest = refl
-
-past-history : (store ns : List ℕ) (i : ℕ) (rest : List ℕ) → allMade ns i ≡ true
-    → pastIn ns (numbersOf (answersTo store (requestsTo ns i)) ++ rest) i ≡ history store (requestsTo ns i)
-unfolding pastIn history requestsTo allMade
-past-history store ns zero rest e = refl
-past-history store ns (suc i) rest e =
-    let parts = both-true (allMade ns i) (isMade (frameAt ns i)) e in
-    let before : List ℕ = numbersOf (answersTo store (requestsTo ns i)) in
-    let left : List ℕ = storeAfter store (requestsTo ns i) in
-    let last : List ℕ = numbersOf (answersTo left (requestOf (frameAt ns i))) in
-    let place : answerLength * i ≡ length before + 0 = omega (arith, length-numbers store ns i (parts .0)) in
-    let read : getD (before ++ (last ++ rest)) (answerLength * i) 0 ≡ getD (last ++ rest) 0 0 = rw place (getD-append-add before (last ++ rest) 0 0) in
-    rw (
-      numbers-next store ns i,
-      append-assoc before last rest,
-      past-history store ns i (last ++ rest) (parts .0),
-      read,
-      past-one left (frameAt ns i) rest,
-      history-after store (requestsTo ns i) (requestOf (frameAt ns i)),
-    )
+-- the refusal numbers among the answers are those of the history
+past-history : (store : List ℕ) (calls : List Request) → pastIn (numbersOf (answersTo store calls)) calls ≡ history store calls
+unfolding pastIn numbersOf answersTo history
+past-history store [] = refl
+past-history store (r ∷ rest) =
+    ap (λ (later : List PastCall). record { request = r; refusal = onStore store r .answer .refusal } ∷ later)
+    (past-history (onStore store r .store) rest)
 
 -- calls that are made all exist up to any of them
 pub made-before : (ns : List ℕ) (i n : ℕ) → i ≤ n → allMade ns n ≡ true → allMade ns i ≡ true
@@ -234,17 +206,14 @@ list-refused e =
 pub list-made : {store ns answers storeThen answersThen : List ℕ} → isList ns answers ≡ true → ((k : ℕ) → getD ns k 0 < 2 ^ 32)
     → storeThen ≡ storeAfter store (requestsTo ns (callsIn ns))
     → answersThen ≡ numbersOf (answersTo store (requestsTo ns (callsIn ns))) → Listed store ns answers true storeThen answersThen
-unfolding isList
-list-made {store} {ns} {answers} e words s a =
-    let n : ℕ = callsIn ns in
-    let made : allMade ns n ≡ true = both-true (eqb (length ns) (callLength * n) && eqb (length answers) (answerLength * n)) (allMade ns n) e .1 in
-    let past = rw append-nil at (past-history store ns n [] made) in
+list-made {store} {ns} e words s a =
+    let calls : List Request = requestsTo ns (callsIn ns) in
     record {
       taken = sym e;
       kept = λ z. absurd (never-both true refl z);
       storeMade = λ z. s;
       answersMade = λ z. a;
-      demandThree = λ z f stream known. rw (s, a, past, f) (every-list (requestsTo ns n) (requests-words ns words n) stream known);
+      demandThree = λ z f stream known. rw (s, a, past-history store calls, f) (every-list calls (requests-words ns words (callsIn ns)) stream known);
     }
 
 -- what keeps numbers from being a list of calls

@@ -5,12 +5,12 @@ use mathlib.Core.Path.{_≡_}
 use mathlib.Core.Bool.{Bool, true, false, _&&_}
 use mathlib.Core.List.{List, [], _∷_, _++_}
 use lib.Dec.{eqb}
-use lib.ListN.{length, getD}
+use lib.ListN.{length, drop, getD}
 use Rattle.little.specs.Little.{part}
 use Rattle.model.specs.declared.Answer.{Answer}
 use Rattle.model.specs.Sizes.{streams}
 use Rattle.model.specs.Store.{Request, fresh, storeAfter, answersTo}
-use Rattle.model.specs.Claims.{PastCall, on, DemandThree}
+use Rattle.model.specs.Claims.{PastCall, DemandThree}
 use Rattle.numbering.specs.declared.Frame.{Frame}
 use Rattle.numbering.specs.declared.Frame.the-variants.{Made, Bad}
 use Rattle.numbering.specs.Numbers.{frameArguments, numbered, requestOf}
@@ -55,15 +55,10 @@ isList ns answers =
     && eqb (length answers) (answerLength * callsIn ns)
     && allMade ns (callsIn ns)
 
--- the first calls, each with the refusal number that stands among the answers
-
-unfoldable pub pastOf : Frame → ℕ → List PastCall
-pastOf (Made stream c) refusal = record { request = on stream c; refusal = refusal } ∷ []
-pastOf Bad refusal = []
-
-unfoldable pub pastIn : List ℕ → List ℕ → ℕ → List PastCall
-pastIn ns answers zero = []
-pastIn ns answers (suc i) = pastIn ns answers i ++ pastOf (frameAt ns i) (getD answers (answerLength * i) 0)
+-- calls, each with the refusal number that stands first among the numbers of its answer
+unfoldable pub pastIn : List ℕ → List Request → List PastCall
+pastIn answers [] = []
+pastIn answers (r ∷ rest) = record { request = r; refusal = getD answers 0 0 } ∷ pastIn (drop answerLength answers) rest
 
 -- what a list of calls does: a list that is none is refused without a write; else each call is made, one after the other, and of the
 -- answers and the store that it leaves, where it began on a fresh one, demand 3 holds
@@ -73,4 +68,4 @@ pub record Listed (store ns answers : List ℕ) (made : Bool) (storeThen answers
   pub storeMade : made ≡ true → storeThen ≡ storeAfter store (requestsTo ns (callsIn ns))
   pub answersMade : made ≡ true → answersThen ≡ numbersOf (answersTo store (requestsTo ns (callsIn ns)))
   pub demandThree : made ≡ true → store ≡ fresh → (stream : ℕ) → stream < streams
-      → DemandThree (pastIn ns answersThen (callsIn ns)) storeThen stream
+      → DemandThree (pastIn answersThen (requestsTo ns (callsIn ns))) storeThen stream

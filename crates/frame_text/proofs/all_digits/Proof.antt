@@ -1,5 +1,5 @@
 -- The loop's invariant: the bytes before `at` are digits. After it, the last sixteen decide. The measure is what is left of the line.
-use mathlib.Core.Path.{_≡_, sym, ap, _∙_}
+use mathlib.Core.Path.{sym, ap, _∙_}
 use Prim.Native.Nat.{_-_, _≤_}
 use native.Mathlib.Omega.{arith}
 use borrow.Author.Tests.{not-true, not-false}

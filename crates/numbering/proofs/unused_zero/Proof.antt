@@ -1,8 +1,9 @@
 -- The loop's invariant: the flag is the definition at so many slots. The measure is how many are left.
-use mathlib.Core.Path.{_≡_, refl, sym, _∙_}
+use mathlib.Core.Path.{_≡_, refl}
 use Prim.Native.Nat.{_-_, _≤_}
 use native.Mathlib.Numerals.{add-one}
 use native.Mathlib.Omega.{arith}
+use borrow.Author.Needs.{needs}
 use Rattle.numbering.specs.Numbers.{frameArguments, unusedZero}
 use Rattle.numbering.proofs.unused_zero.Statement.{statement}
 use Rattle.numbering.proofs.unused_zero.Tie as tie
@@ -16,21 +17,6 @@ abbrev μ-loop : tie.MeasureT-loop
 loop-holds : tie.Need-loop-holds Inv-loop μ-loop
 unfolding unusedZero
 loop-holds c = (omega arith, refl)
-
-add-is-used : tie.Need-add-is-used Inv-loop μ-loop
-add-is-used c = omega arith
-
-is-used-requires : tie.Need-is-used-requires Inv-loop μ-loop
-is-used-requires c κs = tt
-
-mul-zero : tie.Need-mul-zero Inv-loop μ-loop
-mul-zero c = omega arith
-
-array-read-zero : tie.Need-array-read-zero Inv-loop μ-loop
-array-read-zero c = omega arith
-
-add-i : tie.Need-add-i Inv-loop μ-loop
-add-i c = omega arith
 
 loop-less : tie.Need-loop-less Inv-loop μ-loop
 loop-less c = omega arith
@@ -47,15 +33,5 @@ returns c = let all : c .before .loop .i ≡ frameArguments = omega arith in rw 
 pub unused-zero-spec : {M : Type 1} → statement M
 unused-zero-spec =
     tie.close
-    (tie.spec
-    Inv-loop
-    μ-loop
-    loop-holds
-    add-is-used
-    is-used-requires
-    mul-zero
-    array-read-zero
-    add-i
-    loop-less
-    loop-again
-    returns)
+    (tie.spec Inv-loop μ-loop loop-holds (λ c. search needs) (λ c κs. search needs) (λ c. search needs) (λ c. search needs)
+    (λ c. search needs) loop-less loop-again returns)
