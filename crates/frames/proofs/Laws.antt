@@ -1,4 +1,4 @@
--- What a turn leaves, by what the read answered; and what all turns together leave. Assumes nothing.
+-- What a turn comes to, by what the read answered; and what all turns together leave. Assumes nothing.
 use Prim.Native.Nat.{ℕ, zero, suc, _<_}
 use mathlib.Core.Path.{_≡_, refl, sym, ap, subst, _∙_}
 use mathlib.Core.Bool.{Bool, true, false, _&&_}
@@ -15,11 +15,12 @@ use Rattle.libc.specs.Io.{Moved}
 use Rattle.io.specs.Counts.{clamped}
 use Rattle.model.specs.Store.{fresh}
 use Rattle.model.proofs.Booleans.{both-true, never-both}
-use Rattle.frame_text.specs.Feeding.{Unfinished, begun, afterBytes, atEnd}
+use Rattle.frame_text.specs.Feeding.{Unfinished, begun, afterBytes, printedBy}
 use Rattle.frame_text.proofs.Feeding.{fed-in-pieces}
-use Rattle.feeding.specs.Fed.{held}
+use Rattle.feeding.specs.Fed.{LineHeld, held}
+use Rattle.feeding.proofs.Laws.{held-state}
 use Rattle.frames.specs.declared.Turn.{Turn}
-use Rattle.frames.specs.Turns.{FedTurn, LastTurn, FailedTurn, TurnTaken, storeAfterInput}
+use Rattle.frames.specs.Turns.{onRead, TurnTaken, storeAfterInput}
 
 -- ---- a turn
 
@@ -27,71 +28,78 @@ use Rattle.frames.specs.Turns.{FedTurn, LastTurn, FailedTurn, TurnTaken,
 abbrev pub seen : ℤ → ℤ
 seen got = toZ w64 (ofZ w64 got)
 
-module _ (store line out : List ℕ) (have : ℕ) (piece : List ℕ) (r : Turn) (store′ line′ out′ : List ℕ) where
-  abbrev Turned : ℤ → Type 0
-  Turned got = TurnTaken store line out have piece got r store′ line′ out′
-
-  pub fed-turn : (got : ℤ) → SFits w64 got → (n : ℕ) → Moved (length piece) got → n ≡ clamped (seen got) (length piece) → 0 < n
-      → FedTurn store line out have (take n piece) r store′ line′ out′ → Turned got
-  unfolding TurnTaken
-  fed-turn got fits n moved counted some turn = go got moved (subst (λ (z : ℤ). n ≡ clamped z (length piece)) (toZ-ofZ w64 got fits) counted)
+module _ (u : Unfinished) (piece : List ℕ) where
+  pub some-came : (got : ℤ) → SFits w64 got → (n : ℕ) → Moved (length piece) got → n ≡ clamped (seen got) (length piece) → 0 < n
+      → onRead u piece got ≡ record { state = afterBytes u (take n piece); text = printedBy u (take n piece); going = true; whole = false }
+  unfolding onRead
+  some-came got fits n moved counted some = go got moved (subst (λ (z : ℤ). n ≡ clamped z (length piece)) (toZ-ofZ w64 got fits) counted)
     where
-      go : (got : ℤ) → Moved (length piece) got → n ≡ clamped got (length piece) → Turned got
+      go : (got : ℤ) → Moved (length piece) got → n ≡ clamped got (length piece)
+          → onRead u piece got ≡ record { state = afterBytes u (take n piece); text = printedBy u (take n piece); going = true; whole = false }
       go (pos zero) m e = absurd (let never : ⊥ = omega arith in never)
-      go (pos (suc k)) m e = let all : n ≡ suc k = omega arith in rw all at turn
+      go (pos (suc k)) m e = let all : n ≡ suc k = omega arith in rw all
       go (negsuc k) m e = absurd (let never : ⊥ = omega arith in never)
 
-  pub failed-turn : (got : ℤ) → SFits w64 got → ltZ (seen got) (pos 0) ≡ true → FailedTurn store r store′ → Turned got
-  unfolding TurnTaken
-  failed-turn got fits below turn = go got (subst (λ (z : ℤ). ltZ z (pos 0) ≡ true) (toZ-ofZ w64 got fits) below)
+  pub read-failed : (got : ℤ) → SFits w64 got → ltZ (seen got) (pos 0) ≡ true
+      → onRead u piece got ≡ record { state = u; text = []; going = false; whole = false }
+  unfolding onRead
+  read-failed got fits below = go got (subst (λ (z : ℤ). ltZ z (pos 0) ≡ true) (toZ-ofZ w64 got fits) below)
     where
-      go : (got : ℤ) → ltZ got (pos 0) ≡ true → Turned got
+      go : (got : ℤ) → ltZ got (pos 0) ≡ true → onRead u piece got ≡ record { state = u; text = []; going = false; whole = false }
       go (pos k) e = absurd (let never : ⊥ = omega (arith, ltb-true k 0 e) in never)
-      go (negsuc k) e = turn
+      go (negsuc k) e = refl
 
-  pub last-turn : (got : ℤ) → SFits w64 got → (n : ℕ) → Moved (length piece) got → n ≡ clamped (seen got) (length piece) → n ≡ 0
-      → ltZ (seen got) (pos 0) ≡ false → LastTurn store line out have r store′ out′ → Turned got
-  unfolding TurnTaken
-  last-turn got fits n moved counted none notBelow turn =
+  -- the end of the input: nothing came, and the read did not fail
+  pub input-ended : (got : ℤ) → SFits w64 got → (n : ℕ) → Moved (length piece) got → n ≡ clamped (seen got) (length piece) → n ≡ 0
+      → ltZ (seen got) (pos 0) ≡ false → onRead u piece got ≡ onRead u piece (pos 0)
+  input-ended got fits n moved counted none notBelow =
       go got moved
       (subst (λ (z : ℤ). n ≡ clamped z (length piece)) (toZ-ofZ w64 got fits) counted)
       (subst (λ (z : ℤ). ltZ z (pos 0) ≡ false) (toZ-ofZ w64 got fits) notBelow)
     where
-      go : (got : ℤ) → Moved (length piece) got → n ≡ clamped got (length piece) → ltZ got (pos 0) ≡ false → Turned got
-      go (pos zero) m e b = turn
+      go : (got : ℤ) → Moved (length piece) got → n ≡ clamped got (length piece) → ltZ got (pos 0) ≡ false → onRead u piece got ≡ onRead u piece (pos 0)
+      go (pos zero) m e b = refl
       go (pos (suc k)) m e b = absurd (let never : ⊥ = omega arith in never)
       go (negsuc k) m e b = absurd (never-both true refl b)
 
 -- ---- all turns
 
--- some input came so far; where there may be more, the state is the one after it
+-- some input came so far; where there may be more, it has not come to its end
 abbrev pub Progress : Bool → Bool → List ℕ → List ℕ → ℕ → Type 0
 Progress going whole store line have =
-    (input : List ℕ) × (store ≡ storeAfterInput whole input) × (going ≡ true → held store line have ≡ afterBytes begun input)
+    (input : List ℕ)
+    × (store ≡ storeAfterInput whole input)
+    × LineHeld line have (afterBytes begun input .line)
+    × (going ≡ true → whole ≡ false)
 
-pub no-turn : (line : List ℕ) → Progress true false fresh line 0
+pub no-turn : (line : List ℕ) → LineHeld line 0 [] → Progress true false fresh line 0
 unfolding storeAfterInput afterBytes begun
-no-turn line = ([], refl, λ e. refl)
+no-turn line empty = ([], refl, empty, λ e. refl)
 
 pub turn-more : (store line out : List ℕ) (have : ℕ) (piece : List ℕ) (got : ℤ) (r : Turn) (store′ line′ out′ : List ℕ) (going whole written : Bool)
     → going ≡ true → Progress going whole store line have
-    → TurnTaken store line out have piece got r store′ line′ out′
+    → TurnTaken (onRead (held store line have) piece got) out r store′ line′ out′
     → Progress (r .going && written) (r .whole) store′ line′ (r .have)
-unfolding storeAfterInput TurnTaken
-turn-more store line out have piece (pos zero) r store′ line′ out′ going whole written on so last =
-    let state = so .2 on in (
+unfolding storeAfterInput onRead
+turn-more store line out have piece got r store′ line′ out′ going whole written on so taken =
+    let u : Unfinished = afterBytes begun (so .0) in
+    let same : store ≡ u .store = rw (so .3 on) at (so .1) in
+    let state : held store line have ≡ u = held-state store line have u same (so .2) in
+    go got (rw state at taken)
+  where
+    ended : r .going ≡ false → r .going && written ≡ true → r .whole ≡ false
+    ended stopped e = absurd (never-both (r .going) (both-true (r .going) written e .0) stopped)
+
+    go : (got : ℤ) → TurnTaken (onRead (afterBytes begun (so .0)) piece got) out r store′ line′ out′ → Progress (r .going && written) (r .whole) store′ line′ (r .have)
+    go (pos zero) turn = (
       so .0,
-      rw (last .whole) (last .finished .made ∙ ap (λ (u : Unfinished). atEnd u .store) state ∙ fed-in-pieces .wholeStore (so .0)),
-      λ e. absurd (never-both (r .going) (both-true (r .going) written e .0) (last .going)),
+      rw (turn .whole) (turn .reached .answered .made ∙ fed-in-pieces .wholeStore (so .0)),
+      turn .reached .line,
+      ended (turn .going),
     )
-turn-more store line out have piece (pos (suc k)) r store′ line′ out′ going whole written on so turn =
-    let state = turn .fed .state ∙ ap (λ (u : Unfinished). afterBytes u (take (suc k) piece)) (so .2 on) ∙ sym (fed-in-pieces .cutState begun (so .0) (take (suc k) piece)) in (
-      so .0 ++ take (suc k) piece,
-      rw (turn .whole) (ap (λ (u : Unfinished). u .store) state),
-      λ e. state,
-    )
-turn-more store line out have piece (negsuc k) r store′ line′ out′ going whole written on so turn = (
-  so .0,
-  rw (turn .whole) (turn .sameStore ∙ ap (λ (u : Unfinished). u .store) (so .2 on)),
-  λ e. absurd (never-both (r .going) (both-true (r .going) written e .0) (turn .going)),
-)
+    go (pos (suc k)) turn =
+        let unended : r .whole ≡ false = turn .whole in
+        let cut : afterBytes begun (so .0 ++ take (suc k) piece) ≡ afterBytes (afterBytes begun (so .0)) (take (suc k) piece) =
+        fed-in-pieces .cutState begun (so .0) (take (suc k) piece) in
+        (so .0 ++ take (suc k) piece, rw unended (turn .reached .answered .made ∙ ap (λ (v : Unfinished). v .store) (sym cut)), rw cut (turn .reached .line), λ e. unended)
+    go (negsuc k) turn = (so .0, rw (turn .whole) (turn .reached .answered .made), turn .reached .line, ended (turn .going))

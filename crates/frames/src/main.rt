@@ -1,12 +1,12 @@
 // The program: frames from standard input, over a fresh store, to answers on standard output. What came is answered before more is
 // read, so that it works on a pipe that stays open; its memory does not grow with the input.
 ghost use mathlib.Core.Path.{_≡_};
-ghost use Prim.Native.Nat.{_≤_};
-ghost use lib.ListN.{length};
+ghost use mathlib.Core.List.{[]};
+ghost use lib.ListN.{length, take};
 ghost use Rattle.libc.specs.Io.{Moved};
 ghost use Rattle.model.specs.Store.{fresh};
-ghost use Rattle.frame_text.specs.Feeding.{lineRoom};
-ghost use Rattle.frames.specs.Turns.{Lent, TurnTaken, Ran};
+ghost use Rattle.feeding.specs.Fed.{LineHeld, held};
+ghost use Rattle.frames.specs.Turns.{Lent, onRead, TurnTaken, Ran};
 use libc::STDERR_FILENO;
 use libc::STDIN_FILENO;
 use libc::STDOUT_FILENO;
@@ -49,8 +49,8 @@ fn main() {
 // Reads, answers and prints, turn after turn. A proved loop has to end, and nothing says that the input does: it counts its turns
 // down from a number that no run uses up.
 fn run(store: &mut [u8], line: &mut [u8], piece: &mut [u8], out: &mut [u8]) -> Ended
-    requires { ⌜ (now store ≡ fresh) × Lent (now line) (now piece) (now out) ⌝ }
-    ensures { λ r. ⌜ Ran r (now (store .exit)) ⌝ }
+    requires { ⌜ (now store ≡ fresh) × LineHeld (now line) 0 [] × Lent (now piece) (now out) ⌝ }
+    ensures { λ r. ⌜ Ran r (now (store .exit)) (now (line .exit)) ⌝ }
 {
     let mut have = 0;
     let mut going = true;
@@ -79,9 +79,8 @@ fn answer(
     got: isize,
     out: &mut [u8],
 ) -> Turn
-    requires { ⌜ Lent (now line) (now piece) (now out) × (have ≤ lineRoom) × Moved (length (now piece)) got ⌝ }
-    ensures { λ r. ⌜ TurnTaken (now (store .entry)) (now (line .entry)) (now (out .entry)) have (now (piece .entry)) got r (now (store .exit)) (now (line .exit)) (now (out .exit)) ⌝ }
-    ensures { λ r. ⌜ (r .have ≤ lineRoom) × (r .wrote ≤ length (now (out .exit))) ⌝ }
+    requires { ⌜ LineHeld (now line) have (take have (now line)) × Lent (now piece) (now out) × Moved (length (now piece)) got ⌝ }
+    ensures { λ r. ⌜ TurnTaken (onRead (held (now (store .entry)) (now (line .entry)) have) (now (piece .entry)) got) (now (out .entry)) r (now (store .exit)) (now (line .exit)) (now (out .exit)) ⌝ }
 {
     let n = io::count(got, piece);
     if n > 0 {

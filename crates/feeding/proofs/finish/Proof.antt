@@ -1,3 +1,4 @@
+-- Without a byte of a line the definition comes to nothing too; with one it is that of a line that ended.
 use mathlib.Core.Path.{sym}
 use native.Mathlib.Omega.{arith}
 use lib.Seq.{length-take-le}
@@ -17,7 +18,7 @@ slice-aggregate-end-line c =
 returns-2 : tie.Need-returns-2
 returns-2 c =
     let start = c .before .before .before .before .before .before .before .before .before .before .before .before in
-    last-line _ _ _ _ _ _ _ (omega arith) (start .pre .0) (start .pre .1) (c .before .before .before .before .end-line .ensures)
+    last-line _ _ _ _ _ _ _ (omega arith) (start .pre .0) (c .before .before .before .before .end-line .ensures)
 
 pub finish-spec : {M : Type 1} → statement M
 finish-spec = tie.close (tie.spec returns slice-aggregate-end-line (λ c κs. search needs) (λ c. search needs) (λ c. search needs) returns-2)

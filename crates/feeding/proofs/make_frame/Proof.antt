@@ -1,3 +1,4 @@
+-- A frame is answered by what `make` and `write_answer` ensure; for a bad line nothing was called.
 use Rattle.feeding.proofs.Laws.{frame-made, frame-none}
 use borrow.Author.Needs.{needs}
 use Rattle.feeding.proofs.make_frame.Statement.{statement}
