@@ -1,12 +1,11 @@
 -- What the calls' functions hand to one another: Open's arguments, the refusals before the area is looked at, what a call sees of a
--- stream, what a write asks, and an answer in two words. Assumes nothing.
-use Prim.Native.Nat.{ℕ, _<_, _%_, _/_}
+-- stream, and what a write asks. Assumes nothing.
+use Prim.Native.Nat.{ℕ, _<_}
 use mathlib.Core.Path.{_≡_}
 use mathlib.Core.Bool.{cond, not}
 use mathlib.Core.List.{List}
 use lib.Dec.{T, eqb, leb}
 use lib.ListN.{length}
-use Rattle.model.specs.declared.Answer.{Answer}
 use Rattle.model.specs.declared.Plan.{Plan}
 use Rattle.model.specs.declared.Figures.{Figures}
 use Rattle.model.specs.Sizes.{mostRecords, streams, storeLength}
@@ -16,7 +15,6 @@ use Rattle.model.specs.Store.{areaAt}
 use Rattle.records.specs.Records.{LevelFits}
 use Rattle.replay.specs.declared.Standing.{Standing}
 use Rattle.replay.specs.Standing.{nothingStands, standingOf}
-use Rattle.listening.specs.declared.words.Words.{Words}
 
 -- Open's arguments as a plan
 abbrev pub planOf : ℕ → ℕ → ℕ → ℕ → Plan
@@ -40,13 +38,3 @@ pub record MayWrite (store : List ℕ) (stream : ℕ) (p : Plan) (i : ℕ) (f : 
   pub valid : T (validPlan p)
   pub room : i < mostRecords
   pub fits : LevelFits (f .level)
-
--- the answer in two words
-unfoldable pub answerIn : Words → Answer
-answerIn w =
-    record {
-      refusal = w .low % 4294967296;
-      first = w .low / 4294967296;
-      second = w .high % 4294967296;
-      third = w .high / 4294967296;
-    }

@@ -3,7 +3,6 @@
 // refusals 1, 2, 3 and 6 in one place; it tests its own refusals; an entry is then tried by the step of its plan; and what changed is
 // written in the stream's area.
 pub mod lists;
-mod words;
 
 ghost use mathlib.Core.Path.{_≡_};
 ghost use Prim.Native.Nat.{_+_, _<_};
@@ -77,7 +76,7 @@ pub fn lot(
 ) -> Answer
     ensures { λ r. ⌜ record { answer = r; store = now (store .exit) } ≡ onStore (now (store .entry)) (on stream (Enter (Lot label size sample wrong «wrong_in_all»))) ⌝ }
 {
-    words::in_words(enter_lot(
+    enter_lot(
         store,
         stream,
         label,
@@ -85,9 +84,10 @@ pub fn lot(
         SampleSize(sample),
         wrong,
         wrong_in_all,
-    ))
+    )
 }
 
+// The same with N and n as the types that keep them apart.
 fn enter_lot(
     store: &mut [u8],
     stream: u32,
@@ -133,12 +133,6 @@ fn enter_lot(
 pub fn run(store: &mut [u8], stream: u32, right: u32, wrong: u32) -> Answer
     ensures { λ r. ⌜ record { answer = r; store = now (store .exit) } ≡ onStore (now (store .entry)) (on stream (Enter (Run right wrong))) ⌝ }
 {
-    words::in_words(enter_run(store, stream, right, wrong))
-}
-
-fn enter_run(store: &mut [u8], stream: u32, right: u32, wrong: u32) -> Answer
-    ensures { λ r. ⌜ record { answer = r; store = now (store .exit) } ≡ onStore (now (store .entry)) (on stream (Enter (Run right wrong))) ⌝ }
-{
     let standing = look(store, stream, 0);
     if standing.refusal != 0 {
         return answering::refused(standing.refusal);
@@ -169,12 +163,6 @@ fn enter_run(store: &mut [u8], stream: u32, right: u32, wrong: u32) -> Answer
 
 // Enters a block.
 pub fn block(store: &mut [u8], stream: u32, heard: u32, wrong: u32) -> Answer
-    ensures { λ r. ⌜ record { answer = r; store = now (store .exit) } ≡ onStore (now (store .entry)) (on stream (Enter (Block heard wrong))) ⌝ }
-{
-    words::in_words(enter_block(store, stream, heard, wrong))
-}
-
-fn enter_block(store: &mut [u8], stream: u32, heard: u32, wrong: u32) -> Answer
     ensures { λ r. ⌜ record { answer = r; store = now (store .exit) } ≡ onStore (now (store .entry)) (on stream (Enter (Block heard wrong))) ⌝ }
 {
     let standing = look(store, stream, 0);
@@ -209,12 +197,6 @@ fn enter_block(store: &mut [u8], stream: u32, heard: u32, wrong: u32) -> Answer
 
 // Enters a stop.
 pub fn stop(store: &mut [u8], stream: u32, why: u32, days: u32) -> Answer
-    ensures { λ r. ⌜ record { answer = r; store = now (store .exit) } ≡ onStore (now (store .entry)) (on stream (Enter (Stop why days))) ⌝ }
-{
-    words::in_words(enter_stop(store, stream, why, days))
-}
-
-fn enter_stop(store: &mut [u8], stream: u32, why: u32, days: u32) -> Answer
     ensures { λ r. ⌜ record { answer = r; store = now (store .exit) } ≡ onStore (now (store .entry)) (on stream (Enter (Stop why days))) ⌝ }
 {
     let standing = look(store, stream, 0);
