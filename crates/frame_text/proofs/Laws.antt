@@ -1,20 +1,20 @@
 -- The laws of digits and of an answer's line. Assumes nothing.
-use mathlib.Core.Path.{_≡_, refl, _∙_}
+use mathlib.Core.Path.{_≡_, refl, sym, _∙_}
 use mathlib.Core.Logic.{_⊎_, inl, inr, ⊎-elim}
-use mathlib.Core.Bool.{Bool, true, false, cond, _&&_, _||_}
+use mathlib.Core.Bool.{Bool, true, false, cond, _&&_, _||_, and-assoc}
 use mathlib.Core.List.{List, [], _∷_, _++_}
 use Prim.Native.Nat.{ℕ, zero, suc, _+_, _*_, _/_, _%_, _^_, _≤_, _<_}
 use native.Mathlib.Nat.{add-zero, zero-add, add-suc, suc-add, pow-suc}
 use native.Mathlib.Omega.{arith}
 use borrow.Author.Tests.{ltb-true, ltb-false, leb-true, le-leb, lt-leb}
 use lib.Dec.{T, leb, ltb, lit<}
-use lib.ListN.{length, take, drop, set, length-append}
+use lib.ListN.{length, take, drop, set, length-append, take-append-drop}
 use lib.Seq.{take-add}
 use Rattle.little.specs.Little.{part, written}
 use Rattle.little.proofs.Laws.{set-written, written-next, length-written}
 use Rattle.model.specs.declared.Answer.{Answer}
 use Rattle.model.specs.Stations.{within}
-use Rattle.model.proofs.Booleans.{both-of, both, holds-of, of-holds, never-both}
+use Rattle.model.proofs.Booleans.{both-of, holds-of, of-holds, never-both}
 use Rattle.frame_text.specs.Digits.{digit, allDigits, digitValue, digitOf, goneOn, hexValue, digitsOf}
 use Rattle.frame_text.specs.Answers.{textLength, badLength, answerText, badText}
 use Rattle.frame_text.specs.Claims.{ReadAsWritten}
@@ -39,21 +39,18 @@ pub digit-below : (b : ℕ) → T (digit b) → digitValue b < 16
 unfolding digitValue
 digit-below b h = ⊎-elim (λ w. simp (le-leb b 57 (w .1)) (omega arith)) (λ w. simp (lt-leb b 57 (omega arith)) (omega arith)) (digit-range b h)
 
-pub digits-take : (k : ℕ) (s : List ℕ) → T (allDigits s) → T (allDigits (take k s))
+pub digits-append : (s t : List ℕ) → allDigits (s ++ t) ≡ (allDigits s && allDigits t)
 unfolding allDigits
-digits-take zero s h = tt
-digits-take (suc k) [] h = tt
-digits-take (suc k) (b ∷ s) h = let parts : T (digit b) × T (allDigits s) = both-of (digit b) (allDigits s) h in both (digit b) _ (parts .0) (digits-take k s (parts .1))
+digits-append [] t = refl
+digits-append (b ∷ s) t = rw (digits-append s t) (sym (and-assoc (digit b) (allDigits s) (allDigits t)))
 
-pub digits-drop : (k : ℕ) (s : List ℕ) → T (allDigits s) → T (allDigits (drop k s))
-unfolding allDigits
-digits-drop zero s h = h
-digits-drop (suc k) [] h = tt
-digits-drop (suc k) (b ∷ s) h = digits-drop k s (both-of (digit b) (allDigits s) h .1)
+-- digits, parted
+pub digits-parted : (k : ℕ) (s : List ℕ) → T (allDigits s) → T (allDigits (take k s)) × T (allDigits (drop k s))
+digits-parted k s h = both-of (allDigits (take k s)) (allDigits (drop k s)) (rw (← digits-append (take k s) (drop k s), take-append-drop k s) h)
 
 pub digits-part : (at k : ℕ) (s : List ℕ) → T (allDigits s) → T (allDigits (part at k s))
 unfolding part
-digits-part at k s h = digits-take k (drop at s) (digits-drop at s h)
+digits-part at k s h = digits-parted k (drop at s) (digits-parted at s h .1) .0
 
 -- a part that is not all digits spoils the whole
 pub digits-lost : (at k : ℕ) (s : List ℕ) → allDigits (part at k s) ≡ false → allDigits s ≡ false
@@ -63,18 +60,10 @@ digits-lost at k s lost = go (allDigits s) refl
     go true e = absurd (never-both (allDigits (part at k s)) (holds-of _ (digits-part at k s (of-holds _ e))) lost)
     go false e = refl
 
--- behind digits, the rest decides
-digits-append : (s t : List ℕ) → T (allDigits s) → allDigits (s ++ t) ≡ allDigits t
-unfolding allDigits
-digits-append [] t h = refl
-digits-append (b ∷ s) t h =
-    let parts : T (digit b) × T (allDigits s) = both-of (digit b) (allDigits s) h in
-    rw (holds-of (digit b) (parts .0)) (digits-append s t (parts .1))
-
--- one part more
+-- behind digits, the next part decides
 pub digits-on : (at k : ℕ) (s : List ℕ) → T (allDigits (take at s)) → allDigits (take (at + k) s) ≡ allDigits (part at k s)
 unfolding part
-digits-on at k s h = rw (take-add at k s) (digits-append (take at s) (take k (drop at s)) h)
+digits-on at k s h = rw (take-add at k s, digits-append (take at s) (take k (drop at s)), holds-of (allDigits (take at s)) h)
 
 -- ---- a number and its digits
 

@@ -148,20 +148,6 @@ requests-words ns words (suc i) =
     (words (callLength * i + 1)) (part-words (callLength * i + 2) frameArguments ns words))
     tt))
 
--- a call that does not exist: not all do
-pub not-all : (ns : List ℕ) (i n : ℕ) → i < n → isMade (frameAt ns i) ≡ false → false ≡ allMade ns n
-unfolding allMade
-not-all ns i n h e = go (allMade ns n) refl
-  where
-    go : (b : Bool) → allMade ns n ≡ b → false ≡ allMade ns n
-    go true all =
-        absurd (never-both (isMade (frameAt ns i)) (both-true (allMade ns i) (isMade (frameAt ns i)) (made-before ns (suc i) n h all) .1) e)
-    go false all = sym all
-
-pub all-next : (ns : List ℕ) (i : ℕ) → allMade ns i ≡ true → isMade (frameAt ns i) ≡ true → allMade ns (i + 1) ≡ true
-unfolding allMade
-all-next ns i before e = rw (add-one i) (rw (before, e))
-
 -- one call of a list, made or passed over
 module _ (store ns answers : List ℕ) (i : ℕ) {f : Frame} (read : f ≡ frameAt ns i) where
   pub one-made : {stream : ℕ} {c : Call} {r : Answer} {storeThen answersThen : List ℕ} → f ≡ Made stream c
@@ -186,10 +172,6 @@ pub none-made : (store ns answers : List ℕ) → (store ≡ storeAfter store (r
     × (answers ≡ written 0 (numbersOf (answersTo store (requestsTo ns 0))) answers)
 unfolding requestsTo storeAfter answersTo numbersOf
 none-made store ns answers = (refl, sym (written-nil 0 answers))
-
-pub none-yet : (ns : List ℕ) → allMade ns 0 ≡ true
-unfolding allMade
-none-yet ns = refl
 
 -- a list that is none
 pub list-refused : {store ns answers : List ℕ} → isList ns answers ≡ false → Listed store ns answers false store answers

@@ -43,14 +43,13 @@ fn are_made(calls: &[u32], count: usize) -> bool
     requires { ⌜ callLength * count ≤ length (now calls) ⌝ }
     ensures { λ r. ⌜ r ≡ allMade (now (calls .entry)) count ⌝ }
 {
+    let mut made = true;
     let mut i = 0;
     while i < count {
-        if !is_made(frame_at(calls, i)) {
-            return false;
-        }
+        made = made & is_made(frame_at(calls, i));
         i += 1;
     }
-    true
+    made
 }
 
 // Makes the first calls.

@@ -9,7 +9,7 @@ use native.Mathlib.Numerals.{add-one}
 use native.Mathlib.Omega.{arith}
 use lib.Dec.{lit<}
 use lib.ListN.{length, take, drop, getD, set, length-append, length-take, length-drop, take-append-drop}
-use lib.Seq.{drop-cons, length-take-le, take-at, drop-at, take-append-seam, set-split, drop-drop, getD-take, getD-drop, ext-getD}
+use lib.Seq.{take-suc, drop-cons, length-take-le, take-at, drop-at, take-append-seam, set-split, drop-drop, getD-take, getD-drop, ext-getD}
 use Rattle.little.specs.Little.{bytes, value, part, written, AreBytes}
 
 -- ---- a number and its bytes
@@ -44,6 +44,11 @@ bytes-value (b ∷ s) h =
 pub length-part : (at k : ℕ) (s : List ℕ) → at + k ≤ length s → length (part at k s) ≡ k
 unfolding part
 length-part at k s h = simp (length-take, length-drop) (omega arith)
+
+-- one element more
+pub part-next : (at k : ℕ) (s : List ℕ) → at + k < length s → part at (suc k) s ≡ part at k s ++ (getD s (at + k) 0 ∷ [])
+unfolding part
+part-next at k s h = rw (take-suc (drop at s) k 0 (simp length-drop (omega arith)), getD-drop at s k 0)
 
 -- the number in a part: its first byte, and 256 times the rest
 value-first : (at k next : ℕ) (s : List ℕ) → at < length s → next ≡ at + 1

@@ -19,7 +19,7 @@ abbrev pub slot : ℕ → List ℕ → ℕ
 slot zero s = 0
 slot (suc k) s = getD s k 0
 
--- whether a call uses a slot
+-- whether a call uses a slot: Open four, Lot five, Run, Block and Stop two, Ask one, Back and Read none
 unfoldable pub uses : ℕ → ℕ → Bool
 uses number k =
     cond (eqb number 1) (leb k 4)

@@ -9,7 +9,7 @@ use lib.Seq.{take-take, take-all}
 use Rattle.model.proofs.Booleans.{of-holds}
 use Rattle.frame_text.specs.Digits.{allDigits}
 use Rattle.frame_text.specs.Frames.{frameLength}
-use Rattle.frame_text.proofs.Laws.{digits-take, digits-lost, digits-on}
+use Rattle.frame_text.proofs.Laws.{digits-parted, digits-lost, digits-on}
 use borrow.Author.Needs.{needs}
 use Rattle.frame_text.proofs.all_digits.Statement.{statement}
 use Rattle.frame_text.proofs.all_digits.Tie as tie
@@ -39,7 +39,7 @@ returns-2 c =
     let at-loop = c .before .before in
     let line = at-loop .before .before .args .line .now in
     let first : T (allDigits (take (frameLength - 16) line)) =
-    rw (take-take (frameLength - 16) (at-loop .loop .at) line (omega arith)) at (digits-take (frameLength - 16) _ (at-loop .loop .inv .1)) in
+    rw (take-take (frameLength - 16) (at-loop .loop .at) line (omega arith)) at (digits-parted (frameLength - 16) _ (at-loop .loop .inv .1) .0) in
     c .digits-at2 .ensures ∙ sym (digits-on (frameLength - 16) 16 line first) ∙ ap allDigits (take-all frameLength line (omega arith))
 
 pub all-digits-spec : {M : Type 1} → statement M

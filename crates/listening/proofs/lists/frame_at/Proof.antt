@@ -1,12 +1,12 @@
 -- The loop's invariant: the first k places of the array hold the call's first k arguments. The measure is how many are left.
 use mathlib.Core.Path.{_≡_, refl, sym, _∙_}
-use mathlib.Core.List.{List, [], _∷_, _++_}
-use Prim.Native.Nat.{ℕ, suc, _+_, _*_, _-_, _≤_, _<_}
+use Prim.Native.Nat.{_+_, _*_, _-_, _≤_}
 use native.Mathlib.Numerals.{add-one}
 use native.Mathlib.Omega.{arith}
-use lib.ListN.{length, getD, take, drop, length-set, length-drop}
-use lib.Seq.{take-suc, take-suc-set, take-all, getD-drop}
+use lib.ListN.{length, take, length-set}
+use lib.Seq.{take-suc-set, take-all}
 use Rattle.little.specs.Little.{part}
+use Rattle.little.proofs.Laws.{part-next}
 use Rattle.numbering.specs.Numbers.{frameArguments}
 use Rattle.listening.specs.Lists.{callLength, frameAt}
 use borrow.Author.Needs.{needs}
@@ -19,10 +19,6 @@ Inv-loop calls i at arguments₀ k₀ arguments k =
 
 abbrev μ-loop : tie.MeasureT-loop
 μ-loop calls i at arguments₀ k₀ arguments k = frameArguments - k
-
-part-next : (at k : ℕ) (s : List ℕ) → at + k < length s → part at (suc k) s ≡ part at k s ++ (getD s (at + k) 0 ∷ [])
-unfolding part
-part-next at k s h = rw (take-suc (drop at s) k 0 (simp length-drop (omega arith)), getD-drop at s k 0)
 
 loop-holds : tie.Need-loop-holds Inv-loop μ-loop
 unfolding part
