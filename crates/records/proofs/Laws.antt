@@ -9,7 +9,7 @@ use native.Mathlib.Omega.{arith}
 use lib.Dec.{T, eqb, lit<, lit≤}
 use lib.ListN.{length, drop, getD, set, length-append, length-take, length-drop}
 use lib.Seq.{getD-take, getD-drop, drop-cons, drop-drop, take-add, take-at, drop-at, take-all, ext-getD}
-use borrow.Author.Tests.{eqb-true, eq-eqb}
+use borrow.Author.Tests.{eqb-true, eq-eqb, ne-eqb}
 use Rattle.little.specs.Little.{bytes, value, part, written, AreBytes}
 use Rattle.little.proofs.Laws.{length-bytes, value-bytes, value-range, bytes-value, length-part, length-written, set-written, written-next}
 use Rattle.model.specs.Sizes.{recordLength, headerLength, mostRecords}
@@ -194,3 +194,9 @@ both-compare {a} {b} {s} {u} {v} {at} {next} first second e =
                 rw (first .decides .shown (rw add-zero at front), second .decides .shown (rw e back));
           });
     }
+
+-- where one of the bytes is another, they are not all the same
+pub byte-differs : {x : ℕ} (at j n : ℕ) (s w : List ℕ) → j < length w → x ≡ getD s (at + j) 0 → getD w j 0 ≡ n → (x ≡ n → ⊥)
+    → Decides false (part at (length w) s ≡ w)
+byte-differs at j n s w h read is other =
+    refuted (λ e. other (read ∙ sym (getD-part at (length w) s j h) ∙ ap (λ (l : List ℕ). getD l j 0) e ∙ is))

@@ -21,7 +21,8 @@ returns c =
     let at-accepted = c .before .before in
     let at-continuous = at-accepted .before in
     let at-level = at-continuous .before in
-    let at-plan = at-level .before in
+    let at-credit = at-level .before .before in
+    let at-plan = at-credit .before in
     let known = at-plan .before in
     let area = known .before .args .area .now in
     let p = known .before .args .plan in
@@ -30,14 +31,16 @@ returns c =
     let long : length area ≡ areaLength = known .before .pre .0 in
     let are-bytes : AreBytes area = λ i. omega (arith, known .shared-slice-known .given i) in
     let plan : Compares _ area 0 (part 0 16 (headerOf p n f)) = record { decides = at-plan .has-plan .ensures f } in
-    let level : Compares _ area 16 (part 16 8 (headerOf p n f)) = record { decides = at-level .has-level .ensures p n } in
+    let credit =
+    number-compares 16 4 (f .credit .0) area are-bytes (omega arith) (omega (arith, at-level .before .struct-known .given)) (at-credit .get-u32 .ensures) in
+    let level : Compares _ area 20 (part 20 4 (headerOf p n f)) = record { decides = at-level .has-level .ensures p n } in
     let continuous : Compares _ area 24 (part 24 8 (headerOf p n f)) = record { decides = at-continuous .has-continuous .ensures p n } in
     let accepted =
-    number-compares 32 8 (f .accepted) area are-bytes (omega arith) (omega (arith, c .before .struct-known .given)) (at-accepted .get-u64 .ensures) in
+    number-compares 32 8 (f .accepted) area are-bytes (omega arith) (omega (arith, c .before .struct-known2 .given)) (at-accepted .get-u64 .ensures) in
     let unused = number-compares 40 8 0 area are-bytes (omega arith) (lit< tt) (c .get-u642 .ensures) in
-    both-compare (both-compare (both-compare (both-compare plan level refl) continuous refl) accepted refl) unused refl .decides
+    both-compare (both-compare (both-compare (both-compare (both-compare plan credit refl) level refl) continuous refl) accepted refl) unused refl .decides
 
 pub has-header-spec : {M : Type 1} → statement M
 has-header-spec =
     tie.close
-    (tie.spec has-plan-requires (λ c κs. search needs) (λ c κs. search needs) (λ c κs. search needs) (λ c κs. search needs) returns)
+    (tie.spec has-plan-requires (λ c κs. search needs) (λ c κs. search needs) (λ c κs. search needs) (λ c κs. search needs) (λ c κs. search needs) returns)

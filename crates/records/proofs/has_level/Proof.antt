@@ -1,38 +1,54 @@
--- `records::has_level` meets its contract: each field is compared where it stands.
+-- `records::has_level` meets its contract: the first number that differs is one of the bytes; where none does, the last decides.
 -- Assumes nothing.
 use borrow.Author.Needs.{needs}
+use borrow.Author.Tests.{eq-eqb}
 use native.Mathlib.Omega.{arith}
 use mathlib.Core.Path.{_≡_, refl}
+use lib.Dec.{lit<}
 use lib.ListN.{length}
-use Rattle.little.specs.Little.{bytes, part, AreBytes}
+use Rattle.little.specs.Little.{bytes, part}
 use Rattle.model.specs.Sizes.{areaLength}
 use Rattle.model.specs.Area.{headerOf}
-use Rattle.records.proofs.Laws.{number-compares, byte-compares, both-compare}
+use Rattle.records.proofs.Laws.{byte-compares, both-compare, byte-differs}
 use Rattle.records.proofs.has_level.Statement.{statement}
 use Rattle.records.proofs.has_level.Tie as tie
 
 returns : tie.Need-returns
 unfolding headerOf bytes part
 returns c p n =
-    let at-window = c .before in
-    let at-judged = at-window .before .before in
-    let at-row = at-judged .before .before in
-    let at-level = at-row .before .before in
-    let at-credit = at-level .before .before in
-    let known = at-credit .before .before in
-    let area = known .before .args .area .now in
-    let f = known .before .args .figures in
-    let long : length area ≡ areaLength = known .before .pre in
-    let are-bytes : AreBytes area = λ i. omega (arith, known .shared-slice-known .given i) in
-    let credit =
-    number-compares 16 4 (f .credit .0) area are-bytes (omega arith) (omega (arith, at-level .before .struct-known .given)) (at-credit .get-u32 .ensures) in
-    let level = byte-compares 20 (f .level .level) area (omega arith) (at-level .byte .ensures .0) in
-    let row = byte-compares 21 (f .level .row) area (omega arith) (at-row .byte2 .ensures .0) in
-    let judged = byte-compares 22 (f .level .judged) area (omega arith) (at-judged .byte3 .ensures .0) in
-    let window = byte-compares 23 (f .level .window) area (omega arith) (at-window .byte4 .ensures .0) in
-    both-compare (both-compare (both-compare (both-compare credit level refl) row refl) judged refl) window refl .decides
+    let args = c .before .before .before .before .before .args in
+    byte-differs 20 0 (args .figures .level .level) (args .area .now) (part 20 4 (headerOf p n (args .figures))) (lit< tt) (c .before .before .byte .ensures .0) refl (c .if1 .taken)
+
+returns-2 : tie.Need-returns-2
+unfolding headerOf bytes part
+returns-2 c p n =
+    let args = c .before .before .before .before .before .before .before .before .args in
+    byte-differs 20 1 (args .figures .level .row) (args .area .now) (part 20 4 (headerOf p n (args .figures))) (lit< tt) (c .before .before .byte2 .ensures .0) refl (c .if2 .taken)
+
+returns-3 : tie.Need-returns-3
+unfolding headerOf bytes part
+returns-3 c p n =
+    let args = c .before .before .before .before .before .before .before .before .before .before .before .args in
+    byte-differs 20 2 (args .figures .level .judged) (args .area .now) (part 20 4 (headerOf p n (args .figures))) (lit< tt) (c .before .before .byte3 .ensures .0) refl (c .if3 .taken)
+
+returns-4 : tie.Need-returns-4
+unfolding headerOf bytes part
+returns-4 c p n =
+    let past-judged = c .before .before in
+    let past-row = past-judged .before .before .before in
+    let past-level = past-row .before .before .before in
+    let start = past-level .before .before .before .before .before in
+    let area = start .args .area .now in
+    let f = start .args .figures in
+    let long : length area ≡ areaLength = start .pre in
+    let level = byte-compares 20 (f .level .level) area (omega arith) (past-level .before .before .byte .ensures .0) in
+    let row = byte-compares 21 (f .level .row) area (omega arith) (past-row .before .before .byte2 .ensures .0) in
+    let judged = byte-compares 22 (f .level .judged) area (omega arith) (past-judged .before .before .byte3 .ensures .0) in
+    let window = byte-compares 23 (f .level .window) area (omega arith) (c .before .byte4 .ensures .0) in
+    rw (eq-eqb _ _ (past-level .if1 .left), eq-eqb _ _ (past-row .if2 .left), eq-eqb _ _ (past-judged .if3 .left)) at
+    (both-compare (both-compare (both-compare level row refl) judged refl) window refl .decides)
 
 pub has-level-spec : {M : Type 1} → statement M
 has-level-spec =
     tie.close
-    (tie.spec (λ c κs. search needs) (λ c κs. search needs) (λ c κs. search needs) (λ c κs. search needs) (λ c κs. search needs) returns)
+    (tie.spec (λ c κs. search needs) returns (λ c κs. search needs) returns-2 (λ c κs. search needs) returns-3 (λ c κs. search needs) returns-4)

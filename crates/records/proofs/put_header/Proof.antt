@@ -19,14 +19,19 @@ returns c =
     let at-accepted = at-unused .before .before .before .before in
     let at-continuous = at-accepted .before .before .before .before in
     let at-level = at-continuous .before .before .before .before in
-    let at-plan = at-level .before .before .before .before in
-    let args = at-plan .before .before .before .args in
-    let level = then-written 0 _ _ _ (at-plan .put-plan .ensures (args .figures)) (at-level .put-level .ensures (args .plan) (args .count)) refl (omega arith) in
-    let continuous = then-written 0 _ _ _ level (at-continuous .put-continuous .ensures (args .plan) (args .count)) refl (omega arith) in
+    let at-credit = at-level .before .before .before .before in
+    let at-plan = at-credit .before .before .before .before in
+    let start = at-plan .before .before .before in
+    let p = start .args .plan in
+    let n = start .args .count in
+    let long = start .pre .0 in
+    let credit = then-written 0 _ _ _ (at-plan .put-plan .ensures (start .args .figures)) (at-credit .put-u32 .ensures) refl (omega arith) in
+    let level = then-written 0 _ _ _ credit (at-level .put-level .ensures p n) refl (omega arith) in
+    let continuous = then-written 0 _ _ _ level (at-continuous .put-continuous .ensures p n) refl (omega arith) in
     let accepted = then-written 0 _ _ _ continuous (at-accepted .put-u64 .ensures) refl (omega arith) in
     then-written 0 _ _ _ accepted (at-unused .put-u642 .ensures) refl (omega arith)
 
 pub put-header-spec : {M : Type 1} → statement M
 put-header-spec =
     tie.close
-    (tie.spec put-plan-requires (λ c κs. search needs) (λ c κs. search needs) (λ c κs. search needs) (λ c κs. search needs) (λ c. search needs) returns)
+    (tie.spec put-plan-requires (λ c κs. search needs) (λ c κs. search needs) (λ c κs. search needs) (λ c κs. search needs) (λ c κs. search needs) (λ c. search needs) returns)

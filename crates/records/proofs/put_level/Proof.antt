@@ -1,10 +1,10 @@
--- `records::put_level` meets its contract: the write and the stores are neighbours.
+-- `records::put_level` meets its contract: the stores are neighbours.
 -- Assumes nothing.
 use borrow.Author.Needs.{needs}
 use native.Mathlib.Omega.{arith}
 use mathlib.Core.Path.{refl}
 use Rattle.little.specs.Little.{bytes, part}
-use lib.ListN.{length-set}
+use Rattle.little.proofs.Laws.{set-written}
 use Rattle.model.specs.Area.{headerOf}
 use Rattle.records.proofs.Laws.{then-set}
 use Rattle.records.proofs.put_level.Statement.{statement}
@@ -13,14 +13,14 @@ use Rattle.records.proofs.put_level.Tie as tie
 returns : tie.Need-returns
 unfolding headerOf bytes part
 returns c p n =
-    let state = c .before .before .before .before .before .before .before .before .before .before .args .figures .level in
-    let level = then-set 16 _ (state .level) _ (c .before .before .before .before .before .before .put-u32 .ensures) refl (omega arith) in
-    let row = then-set 16 _ (state .row) _ level refl (omega arith) in
-    let judged = then-set 16 _ (state .judged) _ row refl (omega arith) in
-    then-set 16 _ _ _ judged refl (omega arith)
+    let args = c .before .before .before .before .before .args in
+    let state = args .figures .level in
+    let level = set-written 20 (state .level) (args .area .now) (omega arith) in
+    let row = then-set 20 _ (state .row) _ level refl (omega arith) in
+    let judged = then-set 20 _ (state .judged) _ row refl (omega arith) in
+    then-set 20 _ _ _ judged refl (omega arith)
 
 pub put-level-spec : {M : Type 1} → statement M
 put-level-spec =
     tie.close
-    (tie.spec (λ c κs. search needs) (λ c. search needs) (λ c. search needs) (λ c. search needs) (λ c. simp length-set (omega arith)) (λ c. search needs)
-    (λ c. simp length-set (omega arith)) (λ c. search needs) (λ c. simp length-set (omega arith)) (λ c. search needs) returns)
+    (tie.spec (λ c. search needs) (λ c. search needs) (λ c. search needs) (λ c. search needs) (λ c. search needs) (λ c. search needs) (λ c. search needs) (λ c. search needs) (λ c. search needs) returns)
