@@ -9,7 +9,7 @@ use native.Mathlib.Omega.{arith}
 use lib.Dec.{T, eqb, lit<, lit≤}
 use lib.ListN.{length, drop, getD, set, length-append, length-take, length-drop}
 use lib.Seq.{getD-take, getD-drop, drop-cons, drop-drop, take-add, take-at, drop-at, take-all, ext-getD}
-use borrow.Author.Tests.{eqb-true, eq-eqb, ne-eqb}
+use borrow.Author.Tests.{eqb-true, eq-eqb}
 use Rattle.little.specs.Little.{bytes, value, part, written, AreBytes}
 use Rattle.little.proofs.Laws.{length-bytes, value-bytes, value-range, bytes-value, length-part, length-written, set-written, written-next}
 use Rattle.model.specs.Sizes.{recordLength, headerLength, mostRecords}
@@ -195,8 +195,16 @@ both-compare {a} {b} {s} {u} {v} {at} {next} first second e =
           });
     }
 
--- where one of the bytes is another, they are not all the same
-pub byte-differs : {x : ℕ} (at j n : ℕ) (s w : List ℕ) → j < length w → x ≡ getD s (at + j) 0 → getD w j 0 ≡ n → (x ≡ n → ⊥)
+-- where one part is another, the whole is: by a test that failed, a number, a byte
+pub part-differs : (at j k : ℕ) (s w : List ℕ) → j + k ≤ length w → (part (at + j) k s ≡ part j k w → ⊥) → Decides false (part at (length w) s ≡ w)
+part-differs at j k s w h nay = refuted (λ e. nay (sym (part-part at (length w) j k s h) ∙ ap (part j k) e))
+
+pub number-differs : {x : ℕ} (at j k n : ℕ) (s w : List ℕ) → j + k ≤ length w → part j k w ≡ bytes k n → n < 256 ^ k
+    → x ≡ value (part (at + j) k s) → (x ≡ n → ⊥) → Decides false (part at (length w) s ≡ w)
+number-differs at j k n s w h is room read other =
+    part-differs at j k s w h (λ e. other (read ∙ ap value (e ∙ is) ∙ value-bytes k room))
+
+pub byte-differs : {x : ℕ} (at j n : ℕ) (s w : List ℕ) → j < length w → getD w j 0 ≡ n → x ≡ getD s (at + j) 0 → (x ≡ n → ⊥)
     → Decides false (part at (length w) s ≡ w)
-byte-differs at j n s w h read is other =
+byte-differs at j n s w h is read other =
     refuted (λ e. other (read ∙ sym (getD-part at (length w) s j h) ∙ ap (λ (l : List ℕ). getD l j 0) e ∙ is))

@@ -13,23 +13,22 @@ use Rattle.records.proofs.has_continuous.Tie as tie
 
 returns : tie.Need-returns
 unfolding headerOf bytes part
-returns c p n =
+returns c p n f e =
     let at-tail = c .before in
     let at-unused = at-tail .before in
     let at-phase = at-unused .before .before in
     let at-count = at-phase .before .before in
-    let known = at-count .before .before in
+    let known = at-count .before in
     let area = known .before .args .area .now in
-    let f = known .before .args .figures in
+    let state = known .before .args .state in
     let long : length area ≡ areaLength = known .before .pre in
     let are-bytes : AreBytes area = λ i. omega (arith, known .shared-slice-known .given i) in
     let count =
-    number-compares 24 4 (f .continuous .count) area are-bytes (omega arith) (omega (arith, at-phase .before .struct-known .given)) (at-count .get-u32 .ensures) in
-    let phase = byte-compares 28 (f .continuous .phase) area (omega arith) refl in
+    number-compares 24 4 (state .count) area are-bytes (omega arith) (omega (arith, at-phase .before .struct-known .given)) (at-count .get-u32 .ensures) in
+    let phase = byte-compares 28 (state .phase) area (omega arith) refl in
     let unused = byte-compares 29 0 area (omega arith) refl in
-    let tail =
-    number-compares 30 2 (f .continuous .tail) area are-bytes (omega arith) (omega (arith, c .struct-known3 .given)) (at-tail .get-u16 .ensures) in
-    both-compare (both-compare (both-compare count phase refl) unused refl) tail refl .decides
+    let tail = number-compares 30 2 (state .tail) area are-bytes (omega arith) (omega (arith, c .struct-known3 .given)) (at-tail .get-u16 .ensures) in
+    rw e (both-compare (both-compare (both-compare count phase refl) unused refl) tail refl .decides)
 
 pub has-continuous-spec : {M : Type 1} → statement M
 has-continuous-spec =
