@@ -61,9 +61,9 @@ pub fn finish(store: &mut [u8], line: &[u8], have: usize, out: &mut [u8]) -> usi
     end_line(store, &line[..have], out, 0)
 }
 
-// Speed: a frame that lies whole in a piece, with no line begun before it, is not copied: its call is made from where it lies. On two
-// million random frames the program takes 1.2 times as long byte by byte. Feeds the line from index i on if it is such a frame, and
-// answers whether it did.
+// Feeds the line from index i on if it is a frame that lies whole in the piece, with no line begun before it; answers whether it did.
+// Speed: such a frame is not copied: its call is made from where it lies. Byte by byte the program takes 1.2 times as long on two million random
+// frames.
 fn take_frame(
     store: &mut [u8],
     have: usize,

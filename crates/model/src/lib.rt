@@ -79,8 +79,7 @@ pub struct Answer {
     pub third: u32,
 }
 
-// A stream's figures. Speed: the words come first, and there is no flag: a struct goes from function to function in memory, and where a
-// number is read in another width than it was written in, the processor waits some 5 to 10 ns.
+// A stream's figures.
 pub struct Figures {
     // the least label above the newest standing lot's, 0 where no lot stands
     pub above: u64,

@@ -4,6 +4,10 @@ use Prim.Native.Nat.{ℕ, _≤_, _<_}
 use Rattle.plans.specs.Severities.{discontinued}
 use Rattle.plans.specs.declared.level.LevelState.{LevelState}
 
+-- as many lots as a byte counts
+abbrev pub mostCounted : ℕ
+mostCounted = 255
+
 -- a state that at most n lots have made
 pub record LevelWithin (n : ℕ) (s : LevelState) : Type 0 where
   pub levels : s .level ≤ discontinued

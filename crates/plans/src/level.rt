@@ -3,6 +3,7 @@ ghost use mathlib.Core.Path.{_≡_};
 ghost use mathlib.Core.Bool.{Bool, true, false};
 ghost use Prim.Native.Nat.{_<_};
 ghost use Rattle.plans.specs.Severities.{normal, tightened};
+ghost use Rattle.plans.specs.LevelBounds.{mostCounted};
 ghost use Rattle.plans.specs.Levels.{levelStart, shifted, withheldIn, arrived, judgedLot, metStop};
 use crate::stops;
 
@@ -14,7 +15,7 @@ pub const TIGHTENED: u32 = 2;
 
 pub const DISCONTINUED: u32 = 3;
 
-// A level stream's state: bytes 20 to 23 of its area. Its numbers are as wide as a register, so that a replay keeps each in one.
+// A level stream's state: bytes 20 to 23 of its area.
 pub struct LevelState {
     pub level: u32,
     // accepted lots in an unbroken row judged at this level since arriving
@@ -39,7 +40,7 @@ impl LevelState {
 
     // Judges a lot: counts it, and moves the level, once.
     pub fn judge(mut self, permits_reduced: bool, withheld: bool) -> Self
-        requires { ⌜ (self .row < 255) × (self .judged < 255) ⌝ }
+        requires { ⌜ (self .row < mostCounted) × (self .judged < mostCounted) ⌝ }
         ensures { λ r. ⌜ r ≡ judgedLot «permits_reduced» withheld self ⌝ }
     {
         if withheld {
@@ -87,7 +88,7 @@ impl LevelState {
 
     // An accepted lot on normal: two withheld ones in the window lead to tightened, ten accepted in a row to reduced.
     fn accept_on_normal(mut self, permits_reduced: bool) -> Self
-        requires { ⌜ (self .level ≡ normal) × (self .row < 255) ⌝ }
+        requires { ⌜ (self .level ≡ normal) × (self .row < mostCounted) ⌝ }
         ensures { λ r. ⌜ r ≡ judgedLot «permits_reduced» false self ⌝ }
     {
         self.window = shift_in(self.window, false);
@@ -106,7 +107,7 @@ impl LevelState {
 
     // An accepted lot on tightened: the fifth in a row leads to normal, else the tenth lot judged there ends the stream.
     fn accept_on_tightened(mut self) -> Self
-        requires { ⌜ (self .level ≡ tightened) × (self .row < 255) × (self .judged < 255) ⌝ }
+        requires { ⌜ (self .level ≡ tightened) × (self .row < mostCounted) × (self .judged < mostCounted) ⌝ }
         ensures { λ r. ⌜ ((permits : Bool) → r ≡ judgedLot permits false self) ⌝ }
     {
         self.window = shift_in(self.window, false);
@@ -123,7 +124,7 @@ impl LevelState {
 
     // An accepted lot on reduced, which moves nothing. (None is judged where the stream is discontinued.)
     fn accept_elsewhere(mut self) -> Self
-        requires { ⌜ (self .level ≡ normal → ⊥) × (self .level ≡ tightened → ⊥) × (self .row < 255) ⌝ }
+        requires { ⌜ (self .level ≡ normal → ⊥) × (self .level ≡ tightened → ⊥) × (self .row < mostCounted) ⌝ }
         ensures { λ r. ⌜ ((permits : Bool) → r ≡ judgedLot permits false self) ⌝ }
     {
         self.window = shift_in(self.window, false);
@@ -134,7 +135,7 @@ impl LevelState {
 
     // A withheld lot: the second in the window ends normal, the tenth lot judged there tightened, any of them reduced.
     fn withhold(mut self) -> Self
-        requires { ⌜ self .judged < 255 ⌝ }
+        requires { ⌜ self .judged < mostCounted ⌝ }
         ensures { λ r. ⌜ ((permits : Bool) → r ≡ judgedLot permits true self) ⌝ }
     {
         self.row = 0;

@@ -46,9 +46,10 @@ pub fn sample_size(vl: u32, severity: u32, size: LotSize) -> SampleSize
     }
 }
 
-// The number in Table 2's first row, on reduced. Numbers grow down a column and to the left, so that no lot asks for less at this level,
-// unless it is smaller itself. Speed: a constant table is built anew wherever it is indexed; read from all of Table 2, a long stream of
-// level lots takes some fifteen times as long.
+// The number in Table 2's first row, on reduced. Numbers grow down a column and to the left, so that no lot asks for less at this level, unless
+// it is smaller itself.
+// Speed: a constant table is built anew wherever it is indexed; read from all of Table 2, a long stream of level lots takes some fifteen times as
+// long.
 pub fn least_sample(vl: u32) -> u32
     requires { ⌜ (1 ≤ vl) × (vl ≤ verificationLevels) ⌝ }
     ensures { λ r. ⌜ r ≡ tabled firstLetter (columnAt vl reduced) ⌝ }

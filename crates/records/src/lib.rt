@@ -123,9 +123,9 @@ pub fn put_header(area: &mut [u8], plan: Plan, count: usize, figures: Figures)
     little::put_u64(area, 40, 0);
 }
 
-// Is the header that of a stream with this plan, so many standing records, and these figures after them? Speed: the tests come one after the
-// other, and each helper is handed no more than it compares; put together by `&`, or handed all figures, a call on a short stream takes
-// up to 1.18 times as long.
+// Is the header that of a stream with this plan, so many standing records, and these figures after them?
+// Speed: the tests come one after the other, and each helper is handed no more than it compares; put together by `&`, or handed all figures, a
+// call on a short stream takes up to 1.18 times as long.
 pub fn has_header(area: &[u8], plan: Plan, count: usize, figures: Figures) -> bool
     requires { ⌜ (length (now area) ≡ areaLength) × T (validPlan plan) × (count ≤ mostRecords) ⌝ }
     ensures { λ r. ⌜ Decides r (part 0 headerLength (now (area .entry)) ≡ headerOf plan count figures) ⌝ }
@@ -150,8 +150,9 @@ pub fn has_header(area: &[u8], plan: Plan, count: usize, figures: Figures) -> bo
     little::get_u64(area, 40) == 0
 }
 
-// Is every byte zero from an index on? It is asked of windows of one length, and then of the rest: of a loop that turns a known number
-// of times the compiler makes straight code, sixteen bytes at a step.
+// Is every byte zero from an index on?
+// Speed: it is asked of windows of one length, and then of the rest: of a loop that turns a known number of times the compiler makes straight
+// code. In one loop a call on a short stream takes 1.25 times as long.
 pub fn is_zero_from(area: &[u8], from: usize) -> bool
     requires { ⌜ (length (now area) ≡ areaLength) × (from ≤ areaLength) ⌝ }
     ensures { λ r. ⌜ Decides r (drop from (now (area .entry)) ≡ zeros (length (now (area .entry)) - from)) ⌝ }
@@ -166,8 +167,9 @@ pub fn is_zero_from(area: &[u8], from: usize) -> bool
     is_zero_in(area, at, AREA_LENGTH)
 }
 
-// Is every byte zero from one index to another? The loop puts them together bit by bit, and runs to its end whatever it finds: so it is
-// compiled to steps of many bytes.
+// Is every byte zero from one index to another?
+// Speed: the loop puts the bytes together bit by bit and runs to its end whatever it finds, so that it is compiled to steps of many bytes; left
+// at the first byte that is not zero, it takes some twenty times as long over an area.
 fn is_zero_in(area: &[u8], from: usize, to: usize) -> bool
     requires { ⌜ (length (now area) ≡ areaLength) × (from ≤ to) × (to ≤ areaLength) ⌝ }
     ensures { λ r. ⌜ Decides r (ZeroBetween (now (area .entry)) from to) ⌝ }
@@ -241,8 +243,9 @@ fn has_plan(area: &[u8], plan: Plan, count: usize) -> bool
         & (little::get_u32(area, 12) == 0)
 }
 
-// Are bytes 20 to 23, whatever else is in it? Speed: put together by `&` the four are compared as one vector, for which the processor waits,
-// since they were written one by one.
+// Are bytes 20 to 23 those of a header with this state, whatever else is in it?
+// Speed: put together by `&` the four are compared as one vector, for which the processor waits, since they were written one by one: a call on a
+// short stream then takes up to 1.3 times as long.
 fn has_level(area: &[u8], state: LevelState) -> bool
     requires { ⌜ length (now area) ≡ areaLength ⌝ }
     ensures { λ r. ⌜ ((p : Plan) (n : ℕ) (f : Figures) → f .level ≡ state → Decides r (part 20 4 (now (area .entry)) ≡ part 20 4 (headerOf p n f))) ⌝ }

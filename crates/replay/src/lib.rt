@@ -159,9 +159,10 @@ fn fits_header(area: &[u8], plan: Plan, figures: Figures, from: usize, to: usize
     records::has_header(area, plan, to, all.figures)
 }
 
-// The replay of the newest records. Speed: the loops are chosen here once more, so that each has two callers: it is then compiled as a
-// function of its own, with the registers for itself. Chosen in one place, all three are inlined there, and a call on a long stream
-// takes up to 1.25 times as long on level plans and 1.8 times on continuous ones.
+// The replay of the newest records.
+// Speed: the loops are chosen here once more, so that each has two callers: it is then compiled as a function of its own, with the registers for
+// itself. Chosen in one place, all three are inlined there, and a call on a long stream takes up to 1.25 times as long on level plans and 1.8
+// times on continuous ones.
 fn replay_newest(area: &[u8], plan: Plan, figures: Figures, from: usize, to: usize) -> Entered
     requires { ⌜ Ready plan (now area) figures from to ⌝ }
     ensures { λ r. ⌜ r ≡ replayed plan (now (area .entry)) to ⌝ }

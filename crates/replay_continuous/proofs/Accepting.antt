@@ -5,6 +5,7 @@ use mathlib.Core.Bool.{Bool, true, false, cond, not, _&&_, _||_, or-true}
 use native.Mathlib.Omega.{arith}
 use lib.Dec.{eqb, ltb, leb}
 use borrow.Author.Tests.{eq-eqb, ne-eqb, leb-true, leb-false, ltb-true, ltb-false, lt-ltb, le-ltb}
+use Rattle.plans.specs.Limits.{largestClearance}
 use Rattle.plans.specs.Continuous.{screening, sampling, isSampling}
 use Rattle.model.specs.declared.Plan.{Plan}
 use Rattle.model.specs.declared.Entry.the-variants.{Run, Block}
@@ -18,7 +19,7 @@ unfit true = refl
 unfit false = refl
 
 -- 15 and 14 of a run where so many are left
-fits-left : (i left h : ℕ) (wrong : Bool) → left ≤ i → i ≤ 10000
+fits-left : (i left h : ℕ) (wrong : Bool) → left ≤ i → i ≤ largestClearance
     → eqb (cond (ltb 10000 h || ltb 1 (flagOf wrong) || eqb (h + flagOf wrong) 0) 15 (cond (eqb left 0 || ltb i (i - left + h + flagOf wrong)) 14 0))
     0 ≡ fitsRun left h wrong
 unfolding fitsRun within
@@ -57,7 +58,7 @@ module _ (p : Plan) (continuous : isContinuous p ≡ true) (s : Place) where
   unfolding accepts firstOf entryRefusals isFull figuresIn stateOf screening isSampling
   no-block some q w = rw (continuous, ne-eqb (s .left) 0 some) (unfit (not (within 1 (p .b) q) || ltb 1 w))
 
-  pub run-accepts : s .left ≤ p .a → p .a ≤ 10000 → (h : ℕ) (wrong : Bool)
+  pub run-accepts : s .left ≤ p .a → p .a ≤ largestClearance → (h : ℕ) (wrong : Bool)
       → accepts p (figuresIn (p .a) s) 0 (Run h (flagOf wrong)) ≡ fitsRun (s .left) h wrong
   unfolding accepts firstOf entryRefusals isFull figuresIn stateOf screening sampling isSampling
   run-accepts least most h wrong = go (eqb (s .left) 0) refl

@@ -2,9 +2,10 @@
 // stream's entries may stand, and what they do is `plans`' own (`Continuous::run`, `block` and `stop`): the replay takes it for each
 // record, a call for the entry that it is about to write.
 //
-// It does not carry the state as the area has it. One number, left, is what is still to be screened until clearance, i - c, and 0 in
-// sampling: so it says the phase and which run fits. Speed: what changes stays in three registers, and of `plans`' functions one
-// subtraction is left; with the state itself a long stream takes twice as long.
+// It does not carry the state as the area has it. One number, left, is what is still to be screened until clearance, i - c, and 0 in sampling: so
+// it says the phase and which run fits.
+// Speed: what changes stays in three registers, and of `plans`' functions one subtraction is left; with the state itself a long stream takes
+// twice as long.
 ghost use mathlib.Core.Path.{_≡_};
 ghost use Prim.Native.Nat.{_≤_};
 ghost use Rattle.little.specs.Little.{part};
@@ -182,10 +183,11 @@ fn next(area: &[u8], plan: Plan, place: Place, at: usize) -> Outcome
     }
 }
 
-// What a record does to the place, and whether it could stand: the step of the entry that it holds. A wrong run or block that does not fit
-// goes the way of a stop, and fails there, since it has no why. Speed: the phase is looked at first, so that a block's head is not compared
-// with a run's. Whether a wrong run or block fits is asked before its head: so the compiler keeps this order, in which a right one costs one
-// comparison. By the heads alone a long stream in sampling takes 1.25 times as long.
+// What a record does to the place, and whether it could stand: the step of the entry that it holds. A wrong run or block that does not fit goes
+// the way of a stop, and fails there, since it has no why.
+// Speed: the phase is looked at first, so that a block's head is not compared with a run's. Whether a wrong run or block fits is asked before its
+// head: so the compiler keeps this order, in which a right one costs one comparison. By the heads alone a long stream in sampling takes 1.25
+// times as long.
 fn take(plan: Plan, place: Place, read: Record) -> Step
     requires { ⌜ OnContinuous plan place ⌝ }
     ensures { λ r. ⌜ Steps plan place r (entered plan (figuresIn (plan .a) place) 0 read) ⌝ }

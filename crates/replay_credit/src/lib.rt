@@ -159,8 +159,8 @@ fn next(area: &[u8], plan: Plan, carried: Carried, at: usize) -> Outcome
     }
 }
 
-// What a record does to the numbers, and whether it could stand: the step of the entry that it holds. Speed: a lot without fault is known by
-// one comparison; taken by `step_lot`, a long stream of good lots takes up to 1.2 times as long.
+// What a record does to the numbers, and whether it could stand: the step of the entry that it holds.
+// Speed: a lot without fault is known by one comparison; taken by `step_lot`, a long stream of good lots takes up to 1.2 times as long.
 fn take(plan: Plan, carried: Carried, read: Record) -> Step
     requires { ⌜ OnCredit plan carried ⌝ }
     ensures { λ r. ⌜ enteredAs (figuresIn carried) r ≡ entered plan (figuresIn carried) 0 read ⌝ }
@@ -210,8 +210,9 @@ fn step_good_lot(plan: Plan, carried: Carried, label: u32, size: LotSize) -> Ste
     })
 }
 
-// A lot with something wrong: only of such a one the sample is worked out, a division. Speed: where the sample has none wrong, which
-// `do_counts_agree` refuses too, it fails before that; without this test a long stream of mixed lots takes 1.12 times as long.
+// A lot with something wrong: only of such a one the sample is worked out, a division.
+// Speed: where the sample has none wrong, which `do_counts_agree` refuses too, it fails before that; without this test a long stream of mixed
+// lots takes 1.12 times as long.
 fn step_wrong_lot(
     plan: Plan,
     carried: Carried,

@@ -6,6 +6,7 @@ use mathlib.Core.Bool.{Bool, true, false}
 use native.Mathlib.Omega.{arith}
 use lib.Dec.{eqb, leb, leb→le}
 use borrow.Author.Tests.{eq-eqb, ne-eqb, le-leb, lt-leb}
+use Rattle.plans.specs.Limits.{verificationLevels}
 use Rattle.plans.specs.Severities.{reduced, tightened}
 use Rattle.plans.specs.Tables.{A, table2, codeLetter, columnAt, tabled, levelSample}
 use Rattle.plans.proofs.Booleans.{either}
@@ -46,7 +47,7 @@ module _ (vl severity N d D : ℕ) where
     unfolding levelSample
     too-many many = sym (lt-leb d (levelSample vl severity N) (omega arith)) ∙ by-sample _ refl
 
-    pub within-least : (n : ℕ) → n ≡ tabled A (columnAt vl reduced) → d ≤ n → d ≤ N → vl ≤ 7 → true ≡ fitsSample vl severity N d D
+    pub within-least : (n : ℕ) → n ≡ tabled A (columnAt vl reduced) → d ≤ n → d ≤ N → vl ≤ verificationLevels → true ≡ fitsSample vl severity N d D
     unfolding levelSample
     within-least n least few size h =
         let most = column-least vl severity (codeLetter vl N) (omega arith) (code-letter-below vl N) in

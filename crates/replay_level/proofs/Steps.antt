@@ -10,6 +10,7 @@ use lib.Dec.{eqb, ltb, leb, leb·zero}
 use borrow.Author.Tests.{eqb-true, eq-eqb, ne-eqb, lt-ltb, not-true, not-false}
 use Rattle.little.specs.Little.{AreBytes}
 use Rattle.plans.specs.Limits.{verificationLevels}
+use Rattle.plans.specs.LevelBounds.{mostCounted}
 use Rattle.plans.specs.Severities.{discontinued}
 use Rattle.plans.specs.Verdicts.{levelVerdict, acceptedOf}
 use Rattle.plans.specs.Tables.{levelSample}
@@ -192,11 +193,11 @@ module _ (p : Plan) (s : Carried) (run : Running p s) where
   unfolding isCredit isContinuous
   plan-most = level-plan p (run .on .reached .valid) (rw (run .on .kind)) (rw (run .on .kind)) .1
 
-  pub row-room : s .state .row < 255
+  pub row-room : s .state .row < mostCounted
   unfolding figuresIn lotFigures
   row-room = omega (arith, reached-within p (figuresIn s) (run .on .reached) .levels)
 
-  pub judged-room : s .state .judged < 255
+  pub judged-room : s .state .judged < mostCounted
   unfolding figuresIn lotFigures
   judged-room = omega (arith, reached-within p (figuresIn s) (run .on .reached) .levels)
 

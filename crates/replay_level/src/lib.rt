@@ -5,6 +5,7 @@
 ghost use mathlib.Core.Path.{_≡_};
 ghost use Prim.Native.Nat.{_≤_};
 ghost use Rattle.little.specs.Little.{part};
+ghost use Rattle.plans.specs.Limits.{verificationLevels};
 ghost use Rattle.model.specs.Sizes.{recordLength};
 ghost use Rattle.model.specs.declared.Entry.the-variants.{Stop};
 ghost use Rattle.model.specs.Records.{recordIn};
@@ -173,8 +174,9 @@ fn next(area: &[u8], plan: Plan, carried: Carried, at: usize) -> Outcome
     }
 }
 
-// What a record does to the numbers, and whether it could stand: the step of the entry that it holds. Speed: a lot without fault is known by
-// one comparison; taken by `step_lot`, which then has two callers and is not inlined, a long stream takes some twenty times as long.
+// What a record does to the numbers, and whether it could stand: the step of the entry that it holds.
+// Speed: a lot without fault is known by one comparison; taken by `step_lot`, which then has two callers and is not inlined, a long stream takes
+// some twenty times as long.
 fn take(plan: Plan, carried: Carried, read: Record) -> Step
     requires { ⌜ OnLevel plan carried ⌝ }
     ensures { λ r. ⌜ enteredAs (figuresIn carried) r ≡ entered plan (figuresIn carried) 0 read ⌝ }
@@ -256,11 +258,11 @@ fn step_wrong_lot(
     })
 }
 
-// What refusal 13 leaves of a lot: as many wrong in all as in the sample, which holds them. Speed: the sample itself is worked out
-// only where more is wrong than the least that any lot at this level asks for; worked out for each, a long stream of mixed lots takes 1.3 times
-// as long.
+// What refusal 13 leaves of a lot: as many wrong in all as in the sample, which holds them.
+// Speed: the sample itself is worked out only where more is wrong than the least that any lot at this level asks for; worked out for each, a long
+// stream of mixed lots takes 1.3 times as long.
 fn fits_sample(vl: u32, severity: u32, size: LotSize, wrong: u32, wrong_in_all: u32) -> bool
-    requires { ⌜ (1 ≤ vl) × (vl ≤ 7) ⌝ }
+    requires { ⌜ (1 ≤ vl) × (vl ≤ verificationLevels) ⌝ }
     ensures { λ r. ⌜ r ≡ fitsSample vl severity (size .0) wrong «wrong_in_all» ⌝ }
 {
     if wrong_in_all != wrong {

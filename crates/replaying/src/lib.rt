@@ -30,24 +30,25 @@ pub const PAUSE: u32 = records::STOP as u32 + 256;
 
 pub const CHANGE: u32 = records::STOP as u32 + 512;
 
-// A record's first four bytes as one number. It is made where the bytes are read, so that they are loaded and compared at once.
+// A record's first four bytes as one number: kind, flag and the two spare bytes are told by one comparison.
 pub fn head_of(read: Record) -> u32
     ensures { λ r. ⌜ (r ≡ headOf read) × (read .kind < 256) × (read .flag < 256) ⌝ }
 {
     read.kind as u32 + read.flag as u32 * 256 + read.spare as u32 * 65536
 }
 
-// Whether a record has a second, third or fourth number. Speed: the three are put together, so that one comparison tells; by three a long
-// stream in sampling takes 1.15 times as long.
+// Whether a record has a second, third or fourth number.
+// Speed: the three are put together, so that one comparison tells; by three a long stream in sampling takes 1.15 times as long.
 pub fn has_more(read: Record) -> bool
     ensures { λ r. ⌜ r ≡ not (oneNumber read) ⌝ }
 {
     (read.b as u64 + read.c as u64 * 4294967296) | read.d as u64 != 0
 }
 
-// Is a record a lot's, with nothing wrong in the sample, nor in all that was heard? A lot's head is 1, and the two counts add only even
-// numbers to it, so one comparison tells. Speed: it is with 1, since the compiler takes 'is 0' for the rare outcome and puts good lots out of
-// the way; with 0 a long stream of good credit lots takes 1.13 times as long.
+// Is a record a lot's, with nothing wrong in the sample, nor in all that was heard? A lot's head is 1, and the two counts add only even numbers
+// to it, so one comparison tells.
+// Speed: it is with 1, since the compiler takes 'is 0' for the rare outcome and puts good lots out of the way; with 0 a long stream of good
+// credit lots takes 1.13 times as long.
 pub fn is_faultless(read: Record) -> bool
     ensures { λ r. ⌜ r ≡ faultless read ⌝ }
 {
