@@ -12,19 +12,6 @@ use Rattle.model.specs.declared.Figures.{Figures}
 use Rattle.model.specs.declared.Record.{Record}
 use Rattle.model.specs.Figuring.{sampleAsked}
 
--- the kinds
-abbrev pub lotKind : ℕ
-lotKind = 1
-
-abbrev pub runKind : ℕ
-runKind = 2
-
-abbrev pub blockKind : ℕ
-blockKind = 3
-
-abbrev pub stopKind : ℕ
-stopKind = 4
-
 -- a number that is one byte
 abbrev pub byte : ℕ → List ℕ
 byte n = n ∷ []
@@ -47,11 +34,23 @@ recordIn r =
       d = value (part 16 4 r);
     }
 
--- a record with one number
+-- a run, a block and a stop have one number
+abbrev pub runKind : ℕ
+runKind = 2
+
+abbrev pub blockKind : ℕ
+blockKind = 3
+
+abbrev pub stopKind : ℕ
+stopKind = 4
+
 abbrev pub withOne : ℕ → ℕ → ℕ → Record
 withOne kind flag a = record { kind = kind; flag = flag; spare = 0; a = a; b = 0; c = 0; d = 0 }
 
--- a lot's record
+-- a lot has four, and no flag
+abbrev pub lotKind : ℕ
+lotKind = 1
+
 abbrev pub lotRecord : ℕ → ℕ → ℕ → ℕ → Record
 lotRecord label N d D = record { kind = lotKind; flag = 0; spare = 0; a = label; b = N; c = d; d = D }
 
