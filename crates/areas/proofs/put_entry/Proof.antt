@@ -1,3 +1,4 @@
+-- The record, then the header: `rewritten` as it stands.
 use Rattle.areas.specs.Written.{rewritten}
 use borrow.Author.Needs.{needs}
 use Rattle.areas.proofs.put_entry.Statement.{statement}
