@@ -29,7 +29,7 @@ unfolding part
 part-all k s l = take-all k s (omega arith)
 
 -- bytes are those of the number that they hold
-pub part-is-bytes : (at k : ℕ) (s : List ℕ) → AreBytes s → at + k ≤ length s → part at k s ≡ bytes k (value (part at k s))
+part-is-bytes : (at k : ℕ) (s : List ℕ) → AreBytes s → at + k ≤ length s → part at k s ≡ bytes k (value (part at k s))
 part-is-bytes at k s h fits = part-of-value at k _ s h fits refl
 
 -- what the bytes of a record say has these bytes
