@@ -1,7 +1,7 @@
 // Little-endian numbers of two, four and eight bytes at an offset of a byte slice.
 //
 // The contracts cite `specs/Little.antt`; `proofs/Laws.antt` has the laws of its definitions. A number is read as one flat sum of
-// its bytes: that is compiled to one load wherever it is used, where a loop over the bytes stays bytes until late.
+// its bytes, which is compiled to one load.
 ghost use mathlib.Core.Path.{_≡_};
 ghost use Prim.Native.Nat.{_+_, _≤_, _<_};
 ghost use lib.ListN.{length, getD};
