@@ -1,4 +1,4 @@
--- Numbers side by side in the fields of one word: masked, joined and parted all at once. Assumes nothing.
+-- Numbers side by side in the fields of one word: masked and joined all at once. Assumes nothing.
 use mathlib.Core.Path.{_≡_, refl, sym, ap, _∙_}
 use mathlib.Core.List.{List, [], _∷_, _++_}
 use Prim.Native.Nat.{ℕ, zero, suc, _+_, _-_, _*_, _/_, _%_, _^_, _<_}
@@ -52,7 +52,7 @@ below-at P pos [] h i = pos
 below-at P pos (x ∷ xs) h zero = h .0
 below-at P pos (x ∷ xs) h (suc i) = below-at P pos xs (h .1) i
 
--- ---- neighbours joined, and items parted
+-- ---- neighbours joined
 
 -- each two items, the first the higher, as one
 unfoldable pub joined : ℕ → List ℕ → List ℕ
@@ -60,30 +60,17 @@ joined P [] = []
 joined P (a ∷ []) = []
 joined P (a ∷ b ∷ xs) = (a * P + b) ∷ joined P xs
 
--- each item as two, the higher first
-unfoldable pub parted : ℕ → List ℕ → List ℕ
-parted P [] = []
-parted P (t ∷ ts) = t / P ∷ t % P ∷ parted P ts
-
 -- a word of items below P in fields of base B, each with its right neighbour behind it
 abbrev pub overlapped : ℕ → ℕ → ℕ → ℕ
 overlapped P B x = x * P + x / B
 
--- what joining and parting ask of three bases, each the square of the one before: of items a, b and c below P, an item t below B, and
--- the rest of a word
+-- what joining asks of three bases, each the square of the one before: of items a, b and c below P, and the rest of a word
 pub record Bases (P B Q : ℕ) : Type 0 where
   joint : (a b : ℕ) → a < P → b < P → a * P + b < B
   first : (v c : ℕ) → c < P → (v * B + c) % B < P
   none : 0 % B < P
   pair : (v a b : ℕ) → a < P → b < P → overlapped P B ((v * B + b) * B + a) % B ≡ a * P + b
   pairs : (v a b : ℕ) → a < P → b < P → v % B < P → overlapped P B ((v * B + b) * B + a) / Q ≡ overlapped P B v
-  high : (t : ℕ) → t < B → t / P < P
-  low : (t : ℕ) → t % P < P
-  upper : (x t : ℕ) → t < B → (x * Q + t) / P % P ≡ t / P
-  uppers : (x t : ℕ) → t < B → (x * Q + t) / P / Q ≡ x / P
-  lower : (x t : ℕ) → (x * Q + t) % P ≡ t % P
-  lowers : (x t : ℕ) → t < B → (x * Q + t) / Q ≡ x
-  apart : (h l w u v : ℕ) → h + l * B ≡ w → h * Q + u + (l * Q + v) * B ≡ (w * B + v) * B + u
 
 module _ {P B Q : ℕ} (bases : Bases P B Q) where
   pub joined-below : (xs : List ℕ) → Below P xs → Below B (joined P xs)
@@ -105,22 +92,7 @@ module _ {P B Q : ℕ} (bases : Bases P B Q) where
   join (a ∷ b ∷ xs) h =
       rw (bases .pair (fields B xs) a b (h .0) (h .1 .0), bases .pairs (fields B xs) a b (h .0) (h .1 .0) (first-below xs (h .1 .1)), join xs (h .1 .1))
 
-  pub parted-below : (ts : List ℕ) → Below B ts → Below P (parted P ts)
-  unfolding parted
-  parted-below [] h = tt
-  parted-below (t ∷ ts) h = (bases .high t (h .0), (bases .low t, parted-below ts (h .1)))
-
-  -- all items are parted at once
-  part-all : (ts : List ℕ) → Below B ts
-      → picked Q P (length ts) (fields Q ts / P) + picked Q P (length ts) (fields Q ts) * B ≡ fields B (parted P ts)
-  unfolding parted fields picked
-  part-all [] h = omega arith
-  part-all (t ∷ ts) h =
-      let x : ℕ = fields Q ts in
-      rw (bases .upper x t (h .0), bases .uppers x t (h .0), bases .lower x t, bases .lowers x t (h .0))
-      (bases .apart _ _ _ _ _ (part-all ts (h .1)))
-
--- these hold at the three sizes that a word is joined and parted at; omega asks for the numbers
+-- these hold at the three sizes that a word is joined at; omega asks for the numbers
 
 pub by4 : Bases 16 256 65536
 by4 =
@@ -130,13 +102,6 @@ by4 =
       none = omega arith;
       pair = λ v a b ha hb. rw (next v b a ha) (omega arith);
       pairs = λ v a b ha hb hv. rw (next v b a ha) (omega arith);
-      high = λ t h. omega arith;
-      low = λ t. omega arith;
-      upper = λ x t h. omega arith;
-      uppers = λ x t h. omega arith;
-      lower = λ x t. omega arith;
-      lowers = λ x t h. omega arith;
-      apart = λ h l w u v e. omega arith;
     }
   where
     next : (v b a : ℕ) → a < 16 → ((v * 256 + b) * 256 + a) / 256 ≡ v * 256 + b
@@ -150,13 +115,6 @@ by8 =
       none = omega arith;
       pair = λ v a b ha hb. rw (next v b a ha) (omega arith);
       pairs = λ v a b ha hb hv. rw (next v b a ha) (omega arith);
-      high = λ t h. omega arith;
-      low = λ t. omega arith;
-      upper = λ x t h. omega arith;
-      uppers = λ x t h. omega arith;
-      lower = λ x t. omega arith;
-      lowers = λ x t h. omega arith;
-      apart = λ h l w u v e. omega arith;
     }
   where
     next : (v b a : ℕ) → a < 256 → ((v * 65536 + b) * 65536 + a) / 65536 ≡ v * 65536 + b
@@ -170,13 +128,6 @@ by16 =
       none = omega arith;
       pair = λ v a b ha hb. rw (next v b a ha) (omega arith);
       pairs = λ v a b ha hb hv. rw (next v b a ha) (omega arith);
-      high = λ t h. omega arith;
-      low = λ t. omega arith;
-      upper = λ x t h. omega arith;
-      uppers = λ x t h. omega arith;
-      lower = λ x t. omega arith;
-      lowers = λ x t h. omega arith;
-      apart = λ h l w u v e. omega arith;
     }
   where
     next : (v b a : ℕ) → a < 65536 → ((v * 4294967296 + b) * 4294967296 + a) / 4294967296 ≡ v * 4294967296 + b
@@ -187,10 +138,3 @@ pub join-masked : {P mask : ℕ} (k m : ℕ) → Bases P (2 ^ k) (2 ^ (k + k)) �
     → bitAnd (overlapped P (2 ^ k) (fields (2 ^ k) xs)) mask ≡ fields (2 ^ (k + k)) (joined P xs)
 join-masked {P} k m bases xs small long e =
     mask-law k k m (overlapped P (2 ^ k) (fields (2 ^ k) xs)) e ∙ rw (← long) (join bases xs small)
-
--- items are parted by a mask that keeps each lower half
-pub part-masked : {B mask : ℕ} (k m : ℕ) → Bases (2 ^ k) B (2 ^ (k + k + k + k)) → (ts : List ℕ) → Below B ts → length ts ≡ m → mask ≡ lows (k + k + k) k m
-    → bitAnd (fields (2 ^ (k + k + k + k)) ts / 2 ^ k) mask + bitAnd (fields (2 ^ (k + k + k + k)) ts) mask * B ≡ fields B (parted (2 ^ k) ts)
-part-masked k m bases ts small long e =
-    let x : ℕ = fields (2 ^ (k + k + k + k)) ts in
-    rw (mask-law (k + k + k) k m (x / 2 ^ k) e, mask-law (k + k + k) k m x e, ← long) (part-all bases ts small)

@@ -1,41 +1,22 @@
--- Eight digits at once: how word_at reads them, and word_text writes them. Assumes nothing.
+-- Eight digits at once: how word_at reads them. Assumes nothing.
 use mathlib.Core.Path.{_≡_, refl, sym, ap, _∙_}
 use mathlib.Core.Logic.{⊎-elim}
-use mathlib.Core.Bool.{Bool, true, false, cond}
 use mathlib.Core.List.{List, [], _∷_, _++_}
-use Prim.Native.Nat.{ℕ, zero, suc, _+_, _*_, _/_, _%_, _^_, _≤_, _<_}
+use Prim.Native.Nat.{ℕ, _+_, _*_, _/_, _%_, _≤_, _<_}
 use native.Mathlib.Omega.{arith}
-use borrow.Author.Tests.{ltb-true, ltb-false, le-leb, lt-leb}
+use borrow.Author.Tests.{le-leb, lt-leb}
 use lib.Bits.{bitAnd, and-le-r, and-mask}
-use lib.Dec.{T, ltb, lit<, lit≤}
+use lib.Dec.{T, lit≤}
 use lib.ListN.{length, drop, length-drop}
 use lib.Seq.{drop-append-le, take-append-le}
-use Rattle.little.specs.Little.{bytes, value, part}
-use Rattle.little.proofs.Laws.{bytes-value, length-part, part-and-rest}
+use Rattle.little.specs.Little.{value, part}
+use Rattle.little.proofs.Laws.{length-part, part-and-rest}
 use Rattle.model.proofs.Booleans.{both-of}
-use Rattle.frame_text.specs.Digits.{digit, allDigits, digitValue, digitOf, goneOn, hexValue, digitsOf}
-use Rattle.frame_text.proofs.Laws.{digit-range, digit-below, digits-part, length-digits}
-use Rattle.frame_text.proofs.Fields.{
-  fields,
-  lows,
-  picked,
-  mask-law,
-  Below,
-  below-last,
-  below-at,
-  joined,
-  parted,
-  overlapped,
-  joined-below,
-  parted-below,
-  by4,
-  by8,
-  by16,
-  join-masked,
-  part-masked,
-}
+use Rattle.frame_text.specs.Digits.{digit, allDigits, digitValue, goneOn, hexValue}
+use Rattle.frame_text.proofs.Laws.{digit-range, digit-below, digits-part}
+use Rattle.frame_text.proofs.Fields.{fields, lows, picked, mask-law, Below, joined, overlapped, joined-below, by4, by8, by16, join-masked}
 
--- ---- a digit's value, and a digit as text
+-- ---- a digit's value
 
 -- of a digit's bits, the four low ones and the one of 64, which letters have, make its value
 digit-parts : (b : ℕ) → T (digit b) → (b < 256) × (b % 16 + b / 64 % 2 * 9 ≡ digitValue b)
@@ -43,21 +24,9 @@ unfolding digitValue
 digit-parts b h =
     ⊎-elim (λ w. (omega arith, simp (le-leb b 57 (w .1)) (omega arith))) (λ w. (omega arith, simp (lt-leb b 57 (omega arith)) (omega arith))) (digit-range b h)
 
-digit-text : (d : ℕ) → d < 16 → d + 48 + (d + 6) / 16 % 2 * 39 ≡ digitOf d
-unfolding digitOf
-digit-text d h = go (ltb d 10) refl
-  where
-    go : (t : Bool) → ltb d 10 ≡ t → d + 48 + (d + 6) / 16 % 2 * 39 ≡ cond t (48 + d) (87 + d)
-    go true e = omega (arith, ltb-true d 10 e)
-    go false e = omega (arith, ltb-false d 10 e)
-
 unfoldable valuesOf : List ℕ → List ℕ
 valuesOf [] = []
 valuesOf (b ∷ bs) = digitValue b ∷ valuesOf bs
-
-unfoldable textsOf : List ℕ → List ℕ
-textsOf [] = []
-textsOf (d ∷ ds) = digitOf d ∷ textsOf ds
 
 values-below : (bs : List ℕ) → T (allDigits bs) → Below 16 (valuesOf bs)
 unfolding allDigits valuesOf
@@ -81,24 +50,6 @@ read-ones (b ∷ bs) h =
     let rest-letter : (b + 256 * v) / 64 / 256 ≡ v / 64 = rw quarters (omega arith) in
     let letter : (b + 256 * v) / 64 % 2 ≡ b / 64 % 2 = rw quarters (omega arith) in
     rw (rest, low, rest-letter, letter) (omega (arith, read-ones bs (parts .1)))
-
--- the same in each of m bytes
-unfoldable repeated : ℕ → ℕ → ℕ
-repeated zero e = 0
-repeated (suc m) e = repeated m e * 256 + e
-
--- all values as text at once: six more makes the letters reach sixteen
-write-ones : (ds : List ℕ) → Below 16 ds
-    → fields 256 ds + repeated (length ds) 48 + picked 256 2 (length ds) ((fields 256 ds + repeated (length ds) 6) / 16) * 39 ≡ value (textsOf ds)
-unfolding fields repeated picked value textsOf
-write-ones [] h = refl
-write-ones (d ∷ ds) h =
-    let f : ℕ = fields 256 ds in
-    let s : ℕ = repeated (length ds) 6 in
-    let small : d < 16 = h .0 in
-    let rest : (f * 256 + d + (s * 256 + 6)) / 16 / 256 ≡ (f + s) / 16 = omega arith in
-    let letter : (f * 256 + d + (s * 256 + 6)) / 16 % 2 ≡ (d + 6) / 16 % 2 = omega arith in
-    rw (rest, letter) (omega (arith, write-ones ds (h .1), digit-text d small))
 
 -- ---- eight digits
 
@@ -191,72 +142,6 @@ twos-small x = and-le-r (overlapped 16 256 (onesIn x)) 0x00ff_00ff_00ff_00ff
 
 pub fours-small : (x : ℕ) → foursIn x ≤ 0x0000_ffff_0000_ffff
 fours-small x = and-le-r (overlapped 256 65536 (twosIn x)) 0x0000_ffff_0000_ffff
-
--- as word_text computes, from a number to the bytes of its text
-
-abbrev pub foursOf : ℕ → ℕ
-foursOf n = bitAnd (n / 65536) 0xffff + bitAnd n 0xffff * 4294967296
-
-abbrev pub twosOf : ℕ → ℕ
-twosOf n = bitAnd (foursOf n / 256) 0x0000_00ff_0000_00ff + bitAnd (foursOf n) 0x0000_00ff_0000_00ff * 65536
-
-abbrev pub onesOf : ℕ → ℕ
-onesOf n = bitAnd (twosOf n / 16) 0x000f_000f_000f_000f + bitAnd (twosOf n) 0x000f_000f_000f_000f * 256
-
-abbrev pub lettersOf : ℕ → ℕ
-lettersOf n = bitAnd ((onesOf n + 0x0606_0606_0606_0606) / 16) 0x0101_0101_0101_0101
-
-abbrev pub textOf : ℕ → ℕ
-textOf n = onesOf n + 0x3030_3030_3030_3030 + lettersOf n * 39
-
--- the eight digits of a number, parted from it
-parted-digits : (n : ℕ) → n < 2 ^ 32 → textsOf (parted 16 (parted 256 (parted 65536 (n ∷ [])))) ≡ digitsOf 8 n
-unfolding parted textsOf digitsOf
-parted-digits n h =
-    let high : n / 16 / 16 / 16 / 16 ≡ n / 65536 = omega arith in
-    let d₀ : n / 65536 / 256 / 16 ≡ n / 65536 / 16 / 16 / 16 % 16 = omega arith in
-    let d₁ : n / 65536 / 256 % 16 ≡ n / 65536 / 16 / 16 % 16 = omega arith in
-    let d₂ : n / 65536 % 256 / 16 ≡ n / 65536 / 16 % 16 = omega arith in
-    let d₃ : n / 65536 % 256 % 16 ≡ n / 65536 % 16 = omega arith in
-    let d₄ : n % 65536 / 256 / 16 ≡ n / 16 / 16 / 16 % 16 = omega arith in
-    let d₅ : n % 65536 / 256 % 16 ≡ n / 16 / 16 % 16 = omega arith in
-    let d₆ : n % 65536 % 256 / 16 ≡ n / 16 % 16 = omega arith in
-    let d₇ : n % 65536 % 256 % 16 ≡ n % 16 = omega arith in
-    cc
-
-pub text-of : (n : ℕ) → n < 2 ^ 32 → textOf n ≡ value (digitsOf 8 n)
-unfolding lows fields parted repeated
-text-of n h =
-    let whole : List ℕ = n ∷ [] in
-    let fours : List ℕ = parted 65536 whole in
-    let twos : List ℕ = parted 256 fours in
-    let ones : List ℕ = parted 16 twos in
-    let whole-below : Below 4294967296 whole = (h, tt) in
-    let fours-below : Below 65536 fours = parted-below by16 whole whole-below in
-    let twos-below : Below 256 twos = parted-below by8 fours fours-below in
-    let ones-below : Below 16 ones = parted-below by4 twos twos-below in
-    let alone : n ≡ fields 18446744073709551616 whole = omega arith in
-    rw (
-      alone,
-      part-masked 16 1 by16 whole whole-below refl refl,
-      part-masked 8 2 by8 fours fours-below refl refl,
-      part-masked 4 4 by4 twos twos-below refl refl,
-      mask-law 7 1 8 ((fields 256 ones + 0x0606_0606_0606_0606) / 16) refl,
-    )
-    (write-ones ones ones-below ∙ ap value (parted-digits n h) ∙ ap (λ (m : ℕ). value (digitsOf 8 m)) alone)
-
--- ---- the digits of a number are bytes
-
-digit-byte : (d : ℕ) → d < 16 → digitOf d < 256
-digit-byte d h = rw (← digit-text d h) (omega arith)
-
-digits-below : (k n : ℕ) → Below 256 (digitsOf k n)
-unfolding digitsOf
-digits-below zero n = tt
-digits-below (suc k) n = below-last 256 (digitsOf k (n / 16)) (digitOf (n % 16)) (digits-below k (n / 16)) (digit-byte (n % 16) (omega arith))
-
-pub text-bytes : (n : ℕ) → bytes 8 (value (digitsOf 8 n)) ≡ digitsOf 8 n
-text-bytes n = rw length-digits at (bytes-value (digitsOf 8 n) (below-at 256 (lit< tt) (digitsOf 8 n) (digits-below 8 n)))
 
 -- ---- the first eight digits of a frame hold its call and its stream
 

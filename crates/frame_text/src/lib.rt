@@ -5,7 +5,7 @@ ghost use mathlib.Core.Path.{_≡_};
 ghost use Prim.Native.Nat.{_+_, _<_, _≤_};
 ghost use lib.Dec.{T};
 ghost use lib.ListN.{length};
-ghost use Rattle.little.specs.Little.{value, part, written};
+ghost use Rattle.little.specs.Little.{part, written};
 ghost use Rattle.numbering.specs.Numbers.{frameArguments};
 ghost use Rattle.frame_text.specs.Digits.{digit, allDigits, digitOf, hexValue, digitsOf};
 ghost use Rattle.frame_text.specs.Frames.{wordDigits, frameLength, argumentsTo, frameOf};
@@ -49,9 +49,9 @@ pub fn write_answer(answer: Answer, out: &mut [u8], at: usize)
     ensures { λ _. ⌜ now (out .exit) ≡ written at (answerText answer) (now (out .entry)) ⌝ }
 {
     put_digits(out, at, 2, answer.refusal);
-    put_word(out, at + 2, answer.first);
-    put_word(out, at + 10, answer.second);
-    put_word(out, at + 18, answer.third);
+    put_digits(out, at + 2, 8, answer.first);
+    put_digits(out, at + 10, 8, answer.second);
+    put_digits(out, at + 18, 8, answer.third);
     out[at + 26] = LINE_FEED;
 }
 
@@ -126,27 +126,6 @@ fn word_at(line: &[u8], at: usize) -> u32
     let twos = (ones * 16 + ones / 256) & 0x00ff_00ff_00ff_00ff;
     let fours = (twos * 256 + twos / 65536) & 0x0000_ffff_0000_ffff;
     ((fours * 65536 + fours / 4294967296) % 4294967296) as u32
-}
-
-// Writes the eight digits of n into out from index `at` on.
-fn put_word(out: &mut [u8], at: usize, n: u32)
-    requires { ⌜ at + wordDigits ≤ length (now out) ⌝ }
-    ensures { λ _. ⌜ now (out .exit) ≡ written at (digitsOf wordDigits n) (now (out .entry)) ⌝ }
-{
-    little::put_u64(out, at, word_text(n));
-}
-
-// The eight digits of n in the bytes of one number, the first in the lowest. They are worked on side by side: n is taken apart into
-// halves, bytes and digits, and then all digits are made text, a letter 39 further on than a decimal.
-fn word_text(n: u32) -> u64
-    ensures { λ r. ⌜ r ≡ value (digitsOf wordDigits n) ⌝ }
-{
-    let whole = n as u64;
-    let fours = ((whole / 65536) & 0xffff) + (whole & 0xffff) * 4294967296;
-    let twos = ((fours / 256) & 0x0000_00ff_0000_00ff) + (fours & 0x0000_00ff_0000_00ff) * 65536;
-    let ones = ((twos / 16) & 0x000f_000f_000f_000f) + (twos & 0x000f_000f_000f_000f) * 256;
-    let letters = ((ones + 0x0606_0606_0606_0606) / 16) & 0x0101_0101_0101_0101;
-    ones + 0x3030_3030_3030_3030 + letters * 39
 }
 
 // Writes the last `width` digits of n into out from index `at` on.

@@ -46,7 +46,7 @@ returns c =
     let second = third .before .before .before .before in
     let first = second .before .before .before .before in
     let args = first .before .before .before .args in
-    rw (fourth .put-word3 .ensures, third .put-word2 .ensures, second .put-word .ensures, first .put-digits .ensures)
+    rw (fourth .put-digits4 .ensures, third .put-digits3 .ensures, second .put-digits2 .ensures, first .put-digits .ensures)
     (one-line (args .at) (args .answer) (args .out .now) (omega (arith, first .before .before .before .pre)))
 
 same-length : tie.Need-same-length
