@@ -9,12 +9,11 @@ use native.Mathlib.Omega.{arith}
 use borrow.Author.Tests.{ltb-true, ltb-false, leb-true, le-leb, lt-leb}
 use lib.Dec.{T, leb, ltb, lit<}
 use lib.ListN.{length, take, drop, set, length-append, take-append-drop}
-use lib.Seq.{take-add}
 use Rattle.little.specs.Little.{part, written}
 use Rattle.little.proofs.Laws.{set-written, written-next, length-written}
 use Rattle.model.specs.declared.Answer.{Answer}
 use Rattle.model.specs.Stations.{within}
-use Rattle.model.proofs.Booleans.{both-of, holds-of, of-holds, never-both}
+use Rattle.model.proofs.Booleans.{both-of}
 use Rattle.frame_text.specs.Digits.{digit, allDigits, digitValue, digitOf, goneOn, hexValue, digitsOf}
 use Rattle.frame_text.specs.Answers.{textLength, badLength, answerText, badText}
 use Rattle.frame_text.specs.Claims.{ReadAsWritten}
@@ -51,19 +50,6 @@ digits-parted k s h = both-of (allDigits (take k s)) (allDigits (drop k s)) (rw 
 pub digits-part : (at k : ℕ) (s : List ℕ) → T (allDigits s) → T (allDigits (part at k s))
 unfolding part
 digits-part at k s h = digits-parted k (drop at s) (digits-parted at s h .1) .0
-
--- a part that is not all digits spoils the whole
-pub digits-lost : (at k : ℕ) (s : List ℕ) → allDigits (part at k s) ≡ false → allDigits s ≡ false
-digits-lost at k s lost = go (allDigits s) refl
-  where
-    go : (t : Bool) → allDigits s ≡ t → t ≡ false
-    go true e = absurd (never-both (allDigits (part at k s)) (holds-of _ (digits-part at k s (of-holds _ e))) lost)
-    go false e = refl
-
--- behind digits, the next part decides
-pub digits-on : (at k : ℕ) (s : List ℕ) → T (allDigits (take at s)) → allDigits (take (at + k) s) ≡ allDigits (part at k s)
-unfolding part
-digits-on at k s h = rw (take-add at k s, digits-append (take at s) (take k (drop at s)), holds-of (allDigits (take at s)) h)
 
 -- ---- a number and its digits
 

@@ -25,9 +25,6 @@ pub const BAD_LENGTH: usize = 3;
 
 pub const LINE_FEED: u8 = 10;
 
-// As many digits as are tested at once: a loop over so many bytes is compiled to a step or two.
-const TESTED: usize = 16;
-
 // The frame in a line, which is given without its line feed.
 pub fn parse(line: &[u8]) -> Frame
     ensures { λ r. ⌜ r ≡ frameOf (now (line .entry)) ⌝ }
@@ -79,31 +76,15 @@ fn arguments_in(line: &[u8]) -> [u32; ARGUMENTS]
     arguments
 }
 
-// Whether the bytes of a line as long as a frame are digits: sixteen after sixteen, and the last sixteen, of which some may have been
-// tested before.
+// Whether the bytes of a line as long as a frame are digits.
 fn all_digits(line: &[u8]) -> bool
     requires { ⌜ length (now line) ≡ frameLength ⌝ }
     ensures { λ r. ⌜ r ≡ allDigits (now (line .entry)) ⌝ }
 {
-    let mut at = 0;
-    while at + TESTED < FRAME_LENGTH {
-        if !digits_at(line, at) {
-            return false;
-        }
-        at += TESTED;
-    }
-    digits_at(line, FRAME_LENGTH - TESTED)
-}
-
-// Whether the sixteen bytes of line from index `at` on are digits.
-fn digits_at(line: &[u8], at: usize) -> bool
-    requires { ⌜ at + 16 ≤ length (now line) ⌝ }
-    ensures { λ r. ⌜ r ≡ allDigits (part at 16 (now (line .entry))) ⌝ }
-{
     let mut all = true;
     let mut i = 0;
-    while i < TESTED {
-        all = all & is_digit(line[at + i]);
+    while i < FRAME_LENGTH {
+        all = all & is_digit(line[i]);
         i += 1;
     }
     all
@@ -115,8 +96,10 @@ fn is_digit(b: u8) -> bool
     ((b'0' <= b) & (b <= b'9')) | ((b'a' <= b) & (b <= b'f'))
 }
 
-// The number that the eight digits of line from index `at` on stand for. They are worked on side by side, in the bytes of one
-// number: each digit's value first, and then the values of two, of four and of all eight.
+// The number that the eight digits of line from index `at` on stand for.
+//
+// Speed: they are worked on side by side, in the bytes of one number: each digit's value first, and then the values of two, of four
+// and of all eight. On random frames the program takes 1.3 times as long digit by digit, more than twice as long with a branch for letters.
 fn word_at(line: &[u8], at: usize) -> u32
     requires { ⌜ (at + wordDigits ≤ length (now line)) × T (allDigits (part at wordDigits (now line))) ⌝ }
     ensures { λ r. ⌜ r ≡ hexValue (part at wordDigits (now (line .entry))) ⌝ }

@@ -1,49 +1,52 @@
--- The loop's invariant: the bytes before `at` are digits. After it, the last sixteen decide. The measure is what is left of the line.
-use mathlib.Core.Path.{sym, ap, _∙_}
+-- The loop's invariant: the flag says whether the first i bytes are digits. The measure is what is left.
+use mathlib.Core.Path.{_≡_, refl, ap, _∙_}
+use mathlib.Core.Bool.{and-true}
 use Prim.Native.Nat.{_-_, _≤_}
+use native.Mathlib.Numerals.{add-one}
 use native.Mathlib.Omega.{arith}
-use borrow.Author.Tests.{not-true, not-false}
-use lib.Dec.{T}
 use lib.ListN.{take}
-use lib.Seq.{take-take, take-all}
-use Rattle.model.proofs.Booleans.{of-holds}
+use lib.Seq.{take-suc, take-all}
 use Rattle.frame_text.specs.Digits.{allDigits}
 use Rattle.frame_text.specs.Frames.{frameLength}
-use Rattle.frame_text.proofs.Laws.{digits-parted, digits-lost, digits-on}
+use Rattle.frame_text.proofs.Laws.{digits-append}
 use borrow.Author.Needs.{needs}
 use Rattle.frame_text.proofs.all_digits.Statement.{statement}
 use Rattle.frame_text.proofs.all_digits.Tie as tie
 
 abbrev Inv-loop : tie.InvT-loop
-Inv-loop line at₀ at = (at ≤ frameLength) × T (allDigits (take at line))
+Inv-loop line all₀ i₀ all i = (i ≤ frameLength) × (all ≡ allDigits (take i line))
 
 abbrev μ-loop : tie.MeasureT-loop
-μ-loop line at₀ at = frameLength - at
+μ-loop line all₀ i₀ all i = frameLength - i
 
 loop-holds : tie.Need-loop-holds Inv-loop μ-loop
 unfolding allDigits
-loop-holds c = (omega arith, tt)
-
-returns : tie.Need-returns Inv-loop μ-loop
-returns c = sym (digits-lost _ 16 _ (sym (c .before .digits-at .ensures) ∙ not-true _ (c .if1 .taken)))
+loop-holds c = (omega arith, refl)
 
 loop-less : tie.Need-loop-less Inv-loop μ-loop
 loop-less c = omega arith
 
 loop-again : tie.Need-loop-again Inv-loop μ-loop
+unfolding allDigits
 loop-again c =
-    (omega arith, of-holds _ (digits-on _ 16 _ (c .before .before .before .loop .inv .1) ∙ sym (c .before .digits-at .ensures) ∙ not-false _ (c .if1 .left)))
+    let turn = c .before .before .before .loop in
+    let line = c .before .before .before .before .before .args .line .now in (
+      omega arith,
+      rw (
+        c .is-digit .ensures,
+        turn .inv .1,
+        add-one (turn .i),
+        take-suc line (turn .i) 0 (omega arith),
+        digits-append (take (turn .i) line) _,
+        and-true,
+      ),
+    )
 
-returns-2 : tie.Need-returns-2 Inv-loop μ-loop
-returns-2 c =
-    let at-loop = c .before .before in
-    let line = at-loop .before .before .args .line .now in
-    let first : T (allDigits (take (frameLength - 16) line)) =
-    rw (take-take (frameLength - 16) (at-loop .loop .at) line (omega arith)) at (digits-parted (frameLength - 16) _ (at-loop .loop .inv .1) .0) in
-    c .digits-at2 .ensures ∙ sym (digits-on (frameLength - 16) 16 line first) ∙ ap allDigits (take-all frameLength line (omega arith))
+returns : tie.Need-returns Inv-loop μ-loop
+returns c = c .before .loop .inv .1 ∙ ap allDigits (take-all (c .before .loop .i) _ (omega arith))
 
 pub all-digits-spec : {M : Type 1} → statement M
 all-digits-spec =
     tie.close
-    (tie.spec Inv-loop μ-loop loop-holds (λ c. search needs) (λ c κs. search needs) returns (λ c. search needs) loop-less loop-again
-    (λ c. search needs) (λ c κs. search needs) returns-2)
+    (tie.spec Inv-loop μ-loop loop-holds (λ c. search needs) (λ c κs. search needs) (λ c. search needs) loop-less
+    loop-again returns)
