@@ -14,13 +14,6 @@ Inv-loop number arguments zero₀ i₀ zero i = (i ≤ frameArguments) × (zero 
 abbrev μ-loop : tie.MeasureT-loop
 μ-loop number arguments zero₀ i₀ zero i = frameArguments - i
 
-loop-holds : tie.Need-loop-holds Inv-loop μ-loop
-unfolding unusedZero
-loop-holds c = (omega arith, refl)
-
-loop-less : tie.Need-loop-less Inv-loop μ-loop
-loop-less c = omega arith
-
 loop-again : tie.Need-loop-again Inv-loop μ-loop
 unfolding unusedZero
 loop-again c =
@@ -31,7 +24,8 @@ returns : tie.Need-returns Inv-loop μ-loop
 returns c = let all : c .before .loop .i ≡ frameArguments = omega arith in rw all at (c .before .loop .inv .1)
 
 pub unused-zero-spec : {M : Type 1} → statement M
+unfolding unusedZero
 unused-zero-spec =
     tie.close
-    (tie.spec Inv-loop μ-loop loop-holds (λ c. search needs) (λ c κs. search needs) (λ c. search needs) (λ c. search needs)
-    (λ c. search needs) loop-less loop-again returns)
+    (tie.spec Inv-loop μ-loop (λ c. (omega arith, refl)) (λ c. search needs) (λ c κs. search needs) (λ c. search needs) (λ c. search needs)
+    (λ c. search needs) (λ c. omega arith) loop-again returns)

@@ -14,13 +14,6 @@ Inv-loop calls count made₀ i₀ made i = (i ≤ count) × (made ≡ allMade ca
 abbrev μ-loop : tie.MeasureT-loop
 μ-loop calls count made₀ i₀ made i = count - i
 
-loop-holds : tie.Need-loop-holds Inv-loop μ-loop
-unfolding allMade
-loop-holds c = (omega arith, refl)
-
-loop-less : tie.Need-loop-less Inv-loop μ-loop
-loop-less c = omega arith
-
 loop-again : tie.Need-loop-again Inv-loop μ-loop
 unfolding allMade
 loop-again c =
@@ -31,6 +24,7 @@ returns : tie.Need-returns Inv-loop μ-loop
 returns c = let all : c .before .loop .i ≡ c .before .before .before .args .count = omega arith in rw all at (c .before .loop .inv .1)
 
 pub are-made-spec : {M : Type 1} → statement M
+unfolding allMade
 are-made-spec =
     tie.close
-    (tie.spec Inv-loop μ-loop loop-holds (λ c κs. search needs) (λ c κs. search needs) (λ c. search needs) loop-less loop-again returns)
+    (tie.spec Inv-loop μ-loop (λ c. (omega arith, refl)) (λ c κs. search needs) (λ c κs. search needs) (λ c. search needs) (λ c. omega arith) loop-again returns)
