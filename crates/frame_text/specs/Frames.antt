@@ -1,5 +1,5 @@
--- A line as a frame: paper 01, "Hexadecimal frames". "One frame a line, 44 lower-case digits: call (1 Open to 8 Read), stream, five
--- 32-bit arguments, big end first, unused ones 0." Assumes nothing.
+-- A line as a frame: paper 01, "Hexadecimal frames". "One frame a line, 44 lower-case digits: call (1 Open to 8 Read, in the order
+-- above), stream, five 32-bit arguments, big end first, unused ones 0." Assumes nothing.
 use Prim.Native.Nat.{ℕ, zero, suc, _+_, _*_}
 use mathlib.Core.Bool.{cond, _&&_}
 use mathlib.Core.List.{List, [], _∷_, _++_}

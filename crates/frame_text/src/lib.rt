@@ -35,7 +35,7 @@ pub fn parse(line: &[u8]) -> Frame
     if !all_digits(line) {
         return Frame::Bad;
     }
-    // Eight digits are read at once: here the call's two, the stream's two, and four that are read again.
+    // The first eight digits: the call's two, the stream's two, and four of the first argument.
     let head = word_at(line, 0);
     numbering::by_number(head / 16777216, head / 65536 % 256, arguments_in(line))
 }

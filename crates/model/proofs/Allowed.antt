@@ -42,7 +42,7 @@ pub record AllowedLot (p : Plan) (f : Figures) (count label N n d D : ℕ) : Typ
   pub lots : isContinuous p ≡ false
   pub running : isDiscontinued f ≡ false
   pub room : count < mostRecords
-  pub otherLabel : sameLabel f label ≡ false
+  pub otherLabel : sameLabel (f .above) label ≡ false
   pub size : sizeInRange p N ≡ true
   pub sample : n ≡ sampleAsked p f N
   pub counts : countsAgree (verdictOn p f d) N n d D ≡ true

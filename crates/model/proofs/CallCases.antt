@@ -51,7 +51,6 @@ use Rattle.model.specs.Calls.{
   firstOf,
   isDiscontinued,
   isFull,
-  sameLabel,
   sizeInRange,
   countsAgree,
   entryRefusals,
@@ -117,7 +116,7 @@ unfolding
     levelAfter moved judgedLot metStop screening sampling isSampling afterRun afterBlock afterStop bytes value part written
     isCredit isLevel isContinuous hasOption within validPlan entryArguments allWords
     noLevel started sampleAsked verdictOn acceptedBy creditStep levelStep continuousStep isLot labelOf stepped figuresOf
-    firstOf isDiscontinued isFull sameLabel sizeInRange countsAgree entryRefusals accepts askRefusals refusals refusalOf lotFigure readFigure
+    firstOf isDiscontinued isFull sizeInRange countsAgree entryRefusals accepts askRefusals refusals refusalOf lotFigure readFigure
     entryAnswer newestKind answerOf withoutNewest changed call admissible admissibleStation
     recordBytes recordIn recordOf entryOf headerOf recordsOf areaOf planIn countIn entriesIn stationIn sameBytes
     reading onArea fresh areaAt onStream onStore storeAfter answersTo onAll callsOf answersOf

@@ -27,7 +27,8 @@ headerOf p count f =
     ++ bytes 2 count  -- 2
     ++ bytes 4 (p .a)  -- 4
     ++ bytes 2 (p .b)  -- 8
-    ++ zeros 6  -- 10
+    ++ zeros 2  -- 10
+    ++ zeros 4  -- 12
     ++ bytes 4 (f .credit .0)  -- 16
     ++ byte (f .level .level)  -- 20
     ++ byte (f .level .row)  -- 21

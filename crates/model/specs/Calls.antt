@@ -5,7 +5,7 @@ use mathlib.Core.List.{List, [], _∷_}
 use lib.Dec.{eqb, ltb, leb}
 use lib.ListN.{length}
 use Rattle.plans.specs.Verdicts.{lotHeard, lotWithheld}
-use Rattle.plans.specs.Limits.{largestLot, longestRun, longestStop}
+use Rattle.plans.specs.Limits.{leastLot, largestLot, longestRun, longestStop}
 use Rattle.plans.specs.Severities.{discontinued}
 use Rattle.plans.specs.Continuous.{isSampling, afterBlock}
 use Rattle.model.specs.declared.Plan.{Plan}
@@ -41,13 +41,13 @@ isDiscontinued f = eqb (f .level .level) discontinued
 unfoldable pub isFull : ℕ → Bool
 isFull count = leb mostRecords count
 
--- 10: the label equals the newest standing lot's
-unfoldable pub sameLabel : Figures → ℕ → Bool
-sameLabel f label = eqb (label + 1) (f .above)
+-- 10: the label equals the newest standing lot's, given the least label above that
+abbrev pub sameLabel : ℕ → ℕ → Bool
+sameLabel above label = eqb (label + 1) above
 
 -- 11: N from 1 (level: 2) to 1,000,000
 unfoldable pub sizeInRange : Plan → ℕ → Bool
-sizeInRange p N = within (cond (isLevel p) 2 1) largestLot N
+sizeInRange p N = within (leastLot (isLevel p)) largestLot N
 
 -- 13: d is at most n; without a wrong one in the sample there is none in all that was heard; of a lot heard whole D is from d to
 -- N - n + d, and of one returned or withheld it is d
@@ -64,7 +64,7 @@ entryRefusals p f count (Lot label N n d D) =
     refuse 7 (isContinuous p)
     ∷ refuse 8 (isDiscontinued f)
     ∷ refuse 9 (isFull count)
-    ∷ refuse 10 (sameLabel f label)
+    ∷ refuse 10 (sameLabel (f .above) label)
     ∷ refuse 11 (not (sizeInRange p N))
     ∷ refuse 12 (not (eqb n (sampleAsked p f N)))
     ∷ refuse 13 (not (countsAgree (verdictOn p f d) N n d D))

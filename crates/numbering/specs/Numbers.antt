@@ -1,5 +1,5 @@
--- Which number is which call: paper 01, "Hexadecimal frames". "Call (1 Open to 8 Read, in the order above), stream, five 32-bit
--- arguments, unused ones 0." Assumes nothing.
+-- Which number is which call: paper 01, "Hexadecimal frames". "call (1 Open to 8 Read, in the order above), stream, five 32-bit
+-- arguments, big end first, unused ones 0"; the text is not looked at here. Assumes nothing.
 use Prim.Native.Nat.{ℕ, zero, suc}
 use mathlib.Core.Bool.{Bool, true, false, cond, _&&_, _||_}
 use mathlib.Core.List.{List, [], _∷_}

@@ -5,7 +5,7 @@ use model::Call;
 use model::Entry;
 use model::Plan;
 
-// So many arguments has every call; it uses some of them.
+// Every call has so many arguments, and uses some of them.
 pub const ARGUMENTS: usize = 5;
 
 // What numbers stand for: a call made on a stream, or none.

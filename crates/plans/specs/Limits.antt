@@ -1,6 +1,7 @@
 -- The ranges that paper 01, "Calls", sets to plans and entries, each under the refusal that keeps to it. A contract that has a
 -- `requires` asks for no more than these. Assumes nothing.
 use Prim.Native.Nat.{ℕ, _*_}
+use mathlib.Core.Bool.{Bool, cond}
 
 -- 5: the AOQL A of a credit plan, in millionths
 abbrev pub largestAoql : ℕ
@@ -18,7 +19,10 @@ largestClearance = 10000
 abbrev pub largestInterval : ℕ
 largestInterval = 200
 
--- 11: a lot's size N
+-- 11: a lot's size N, on a level stream and on another
+abbrev pub leastLot : Bool → ℕ
+leastLot level = cond level 2 1
+
 abbrev pub largestLot : ℕ
 largestLot = 1000000
 

@@ -50,11 +50,11 @@ pub fn sample_size(vl: u32, severity: u32, size: LotSize) -> SampleSize
 // it is smaller itself.
 // Speed: a constant table is built anew wherever it is indexed; read from all of Table 2, a long stream of level lots takes some fifteen times as
 // long.
-pub fn least_sample(vl: u32) -> u32
+pub fn least_sample(vl: u32) -> SampleSize
     requires { ⌜ (1 ≤ vl) × (vl ≤ verificationLevels) ⌝ }
-    ensures { λ r. ⌜ r ≡ tabled firstLetter (columnAt vl reduced) ⌝ }
+    ensures { λ r. ⌜ r .0 ≡ tabled firstLetter (columnAt vl reduced) ⌝ }
 {
-    FIRST_ROW[column(vl as usize, level::REDUCED)]
+    SampleSize(FIRST_ROW[column(vl as usize, level::REDUCED)])
 }
 
 // The code letter of a lot size at the stated verification level.

@@ -1,4 +1,4 @@
--- Where a record stands in an area, which level figures are bytes, and what a test decides. The clauses of `src/` cite these.
+-- Where a record stands in an area, which plans and level figures fit their bytes, and what a test decides. The clauses of `src/` cite these.
 -- Assumes nothing.
 use Prim.Native.Nat.{ℕ, _*_, _≤_, _<_}
 use mathlib.Core.Path.{_≡_}

@@ -43,7 +43,7 @@ pub fn get_record(area: &[u8], i: usize) -> Record
     get_record_at(area, HEADER_LENGTH + RECORD_LENGTH * i)
 }
 
-// The record at an offset, for who counts in bytes.
+// The record at an offset, for callers that count in bytes.
 pub fn get_record_at(area: &[u8], at: usize) -> Record
     requires { ⌜ at + recordLength ≤ length (now area) ⌝ }
     ensures { λ r. ⌜ r ≡ recordIn (part at recordLength (now (area .entry))) ⌝ }
@@ -116,6 +116,7 @@ pub fn put_header(area: &mut [u8], plan: Plan, count: usize, figures: Figures)
     ensures { λ _. ⌜ now (area .exit) ≡ written 0 (headerOf plan count figures) (now (area .entry)) ⌝ }
 {
     put_plan(area, plan, count);
+    little::put_u32(area, 12, 0);
     little::put_u32(area, 16, figures.credit.0);
     put_level(area, figures);
     put_continuous(area, figures);
@@ -133,6 +134,9 @@ pub fn has_header(area: &[u8], plan: Plan, count: usize, figures: Figures) -> bo
     let level = figures.level;
     let continuous = figures.continuous;
     if !has_plan(area, plan, count) {
+        return false;
+    }
+    if little::get_u32(area, 12) != 0 {
         return false;
     }
     if little::get_u32(area, 16) != figures.credit.0 {
@@ -183,7 +187,7 @@ fn is_zero_in(area: &[u8], from: usize, to: usize) -> bool
     bits == 0
 }
 
-// Writes the first four bytes of the header, which are kind, option and count, or of a record: kind, flag and two zeros.
+// Writes the first four bytes of the header, kind, option and count, or of a record: kind, flag and the spare two.
 fn put_start(area: &mut [u8], at: usize, kind: u8, beside: u8, behind: u16)
     requires { ⌜ at + 4 ≤ length (now area) ⌝ }
     ensures { λ _. ⌜ now (area .exit) ≡ written at (byte kind ++ byte beside ++ bytes 2 behind) (now (area .entry)) ⌝ }
@@ -193,16 +197,15 @@ fn put_start(area: &mut [u8], at: usize, kind: u8, beside: u8, behind: u16)
     little::put_u16(area, at + 2, behind);
 }
 
-// Writes bytes 0 to 15 of the header, whatever the figures.
+// Writes bytes 0 to 11 of the header, plan and count, whatever the figures.
 fn put_plan(area: &mut [u8], plan: Plan, count: usize)
     requires { ⌜ (length (now area) ≡ areaLength) × PlanFits plan count ⌝ }
-    ensures { λ _. ⌜ ((f : Figures) → now (area .exit) ≡ written 0 (part 0 16 (headerOf plan count f)) (now (area .entry))) ⌝ }
+    ensures { λ _. ⌜ ((f : Figures) → now (area .exit) ≡ written 0 (part 0 12 (headerOf plan count f)) (now (area .entry))) ⌝ }
 {
     put_start(area, 0, plan.kind as u8, plan.option as u8, count as u16);
     little::put_u32(area, 4, plan.a);
     little::put_u16(area, 8, plan.b as u16);
     little::put_u16(area, 10, 0);
-    little::put_u32(area, 12, 0);
 }
 
 // Writes bytes 20 to 23, whatever the plan and the count.
@@ -229,10 +232,10 @@ fn put_continuous(area: &mut [u8], figures: Figures)
     little::put_u16(area, 30, state.tail);
 }
 
-// Are bytes 0 to 15 those of the header, whatever the figures?
+// Are bytes 0 to 11 those of a header with this plan and count, whatever the figures?
 fn has_plan(area: &[u8], plan: Plan, count: usize) -> bool
     requires { ⌜ (length (now area) ≡ areaLength) × PlanFits plan count ⌝ }
-    ensures { λ r. ⌜ ((f : Figures) → Decides r (part 0 16 (now (area .entry)) ≡ part 0 16 (headerOf plan count f))) ⌝ }
+    ensures { λ r. ⌜ ((f : Figures) → Decides r (part 0 12 (now (area .entry)) ≡ part 0 12 (headerOf plan count f))) ⌝ }
 {
     (little::byte(area, 0) == plan.kind)
         & (little::byte(area, 1) == plan.option)
@@ -240,7 +243,6 @@ fn has_plan(area: &[u8], plan: Plan, count: usize) -> bool
         & (little::get_u32(area, 4) == plan.a)
         & (little::get_u16(area, 8) as u32 == plan.b)
         & (little::get_u16(area, 10) == 0)
-        & (little::get_u32(area, 12) == 0)
 }
 
 // Are bytes 20 to 23 those of a header with this state, whatever else is in it?
@@ -262,7 +264,7 @@ fn has_level(area: &[u8], state: LevelState) -> bool
     little::byte(area, 23) == state.window
 }
 
-// Are bytes 24 to 31, whatever else is in it?
+// The same of bytes 24 to 31 and a continuous state.
 fn has_continuous(area: &[u8], state: Continuous) -> bool
     requires { ⌜ length (now area) ≡ areaLength ⌝ }
     ensures { λ r. ⌜ ((p : Plan) (n : ℕ) (f : Figures) → f .continuous ≡ state → Decides r (part 24 8 (now (area .entry)) ≡ part 24 8 (headerOf p n f))) ⌝ }

@@ -17,9 +17,9 @@ use plans::LotSize;
 use replaying::Entered;
 use rules::plan;
 
-// What an area says: the refusal of every call but Open, 3 where it is unsound, 6 where the stream is unopened; and where that is 0 with which
-// plan the stream is opened, how many records stand, and the figures before the newest of them, which are the figures now where none
-// is set apart.
+// What an area says. The refusal is that of every call but Open: 3 where the area is unsound, 6 where the stream is unopened. Where it is 0, the
+// stream is opened with this plan, and so many records stand; the figures are those before the newest records that a call sets apart,
+// and those now where it sets none apart.
 pub struct Standing {
     pub plan: Plan,
     pub figures: Figures,

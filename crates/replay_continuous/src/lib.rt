@@ -326,8 +326,7 @@ fn state_of(clearance: u32, left: u32, tail: u16) -> Continuous
     Continuous::screen(clearance - left)
 }
 
-// The figures of a place. Credit, level and label are foreign to a continuous stream, so they are written here: nothing that stays the
-// same has to be handed in and out.
+// The figures of a place. Credit, level and label are foreign to a continuous stream.
 fn figures_at(clearance: u32, place: Place) -> Figures
     requires { ⌜ place .left ≤ clearance ⌝ }
     ensures { λ r. ⌜ r ≡ figuresIn clearance place ⌝ }

@@ -8,7 +8,7 @@ use native.Mathlib.Omega.{arith}
 use lib.Dec.{eqb, leb·zero}
 use borrow.Author.Tests.{ne-eqb, not-true, not-false}
 use Rattle.little.specs.Little.{AreBytes}
-use Rattle.plans.specs.Limits.{largestLot, largestAoql, largestCredit}
+use Rattle.plans.specs.Limits.{leastLot, largestLot, largestAoql, largestCredit}
 use Rattle.plans.specs.Credit.{creditSample, creditVerdict, creditAfter}
 use Rattle.plans.specs.Verdicts.{acceptedOf}
 use Rattle.plans.specs.declared.credit.Credit.{Credit}
@@ -132,8 +132,8 @@ module _ (p : Plan) (s : Carried) (on : OnCredit p s) where
     unfolding sampleAsked isCredit figuresIn lotFigures
     asked-so = rw (on .kind) (sym asked)
 
-    following : not (sameLabel (figuresIn s) label) && sizeInRange p N ≡ mayFollow 1 (s .above) label N
-    unfolding sameLabel sizeInRange isLevel mayFollow figuresIn lotFigures
+    following : not (sameLabel (figuresIn s .above) label) && sizeInRange p N ≡ mayFollow (leastLot false) (s .above) label N
+    unfolding sizeInRange isLevel mayFollow figuresIn lotFigures
     following = rw (on .kind)
 
     after : Carried
@@ -143,27 +143,27 @@ module _ (p : Plan) (s : Carried) (on : OnCredit p s) where
     unfolding after askedLot figuresIn creditStep isCredit levelStep isLevel
     stepped-so = lot-numbers (s .credit .0) noLevel (s .accepted) (s .above) p label N _ d D ∙ rw (judged-so, on .kind)
 
-    lot-given : (b : Bool) → mayFollow 1 (s .above) label N && countsAgree v N n d D ≡ b → LotGives p s label N d D (cond b (Stands after) Fails)
+    lot-given : (b : Bool) → mayFollow (leastLot false) (s .above) label N && countsAgree v N n d D ≡ b → LotGives p s label N d D (cond b (Stands after) Fails)
     lot-given b test =
         by-test b (figuresIn s) after
         ∙ sym (lot-tried p (figuresIn s) running lots label N d D ∙ rw (judged-so, asked-so, following, stepped-so, test))
 
     -- no more is wrong than the lot holds
-    pub wrong-at-most : mayFollow 1 (s .above) label N ≡ true → countsAgree v N n d D ≡ true → D ≤ N
+    pub wrong-at-most : mayFollow (leastLot false) (s .above) label N ≡ true → countsAgree v N n d D ≡ true → D ≤ N
     wrong-at-most may agree =
-        let both = both-true (not (sameLabel (figuresIn s) label)) (sizeInRange p N) (following ∙ may) in
-        let other = not-true (sameLabel (figuresIn s) label) (both .0) in
+        let both = both-true (not (sameLabel (figuresIn s .above) label)) (sizeInRange p N) (following ∙ may) in
+        let other = not-true (sameLabel (figuresIn s .above) label) (both .0) in
         let counts : countsAgree (verdictOn p (figuresIn s) d) N n d D ≡ true = rw judged-so agree in
         all-at-most p (figuresIn s) 0 label N n d D
         (record { lots = lots; running = running; room = omega arith; otherLabel = other; size = both .1; sample = sym asked-so; counts = counts })
 
   -- the answers of the code
-  module _ (label N : ℕ) (may : Bool) (tested : may ≡ mayFollow 1 (s .above) label N) where
+  module _ (label N : ℕ) (may : Bool) (tested : may ≡ mayFollow (leastLot false) (s .above) label N) where
     pub lot-refused : (d D : ℕ) → not may ≡ true → LotGives p s label N d D Fails
     lot-refused d D fails = lot-given label N d D _ _ refl refl false (rw (sym tested ∙ not-true may fails))
 
     module _ (fits : not may ≡ false) where
-      follows : mayFollow 1 (s .above) label N ≡ true
+      follows : mayFollow (leastLot false) (s .above) label N ≡ true
       follows = sym tested ∙ not-false may fits
 
       -- nothing wrong in the sample, something in all that was heard

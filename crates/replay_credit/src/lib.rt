@@ -1,7 +1,7 @@
 // The replay of a credit stream's records, and its step: paper 01, "Credit lots". The step is the one home of what a credit stream's
 // entries do to its figures and of whether they may stand: the replay takes it for each record, a call for the entry that it is about to
 // write. What an entry can change is carried in three numbers; `specs/Carrying.antt` has the figures that they stand for.
-// Speed: the loop keeps the numbers in registers; with a step over the whole figures a record took at least three times as long.
+// Speed: the loop keeps the numbers in registers; with a step over the whole figures a record took 3 to 11 times as long.
 ghost use mathlib.Core.Path.{_≡_};
 ghost use Rattle.little.specs.Little.{part};
 ghost use Rattle.model.specs.Sizes.{recordLength};

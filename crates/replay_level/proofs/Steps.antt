@@ -130,7 +130,7 @@ module _ (p : Plan) (s : Carried) (run : Running p s) where
   module _ (label N d D : ℕ) where
     lot-told : (b : Bool) → mayFollow 2 (s .above) label N && fitsSample (p .a) (s .state .level) N d D ≡ b
         → LotGives p s label N d D (cond b (Stands (record { state = judgedLot (hasOption p) (ltb 0 d) (s .state); accepted = s .accepted + acceptedOf (levelVerdict d) N D; above = label + 1 })) Fails)
-    unfolding askedLot sameLabel sizeInRange isLevel isCredit sampleAsked verdictOn creditStep levelStep figuresIn lotFigures mayFollow fitsSample
+    unfolding askedLot sizeInRange isLevel isCredit sampleAsked verdictOn creditStep levelStep figuresIn lotFigures mayFollow fitsSample
     lot-told b test =
         let agree = counts-agree N (levelSample (p .a) (s .state .level) N) d D in
         by-test b _ _

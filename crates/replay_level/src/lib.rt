@@ -1,7 +1,7 @@
 // The replay of a level stream's records, and its step: paper 01, "Level lots". The step is the one home of what a level stream's
 // entries do to its figures and of whether they may stand: the replay takes it for each record, a call for the entry that it is about to
 // write. What an entry can change is carried in six numbers; `specs/Carrying.antt` has the figures that they stand for.
-// Speed: the loop keeps the numbers in registers; with a step over the whole figures a record took at least three times as long.
+// Speed: the loop keeps the numbers in registers; with a step over the whole figures a record took 3 to 11 times as long.
 ghost use mathlib.Core.Path.{_≡_};
 ghost use Prim.Native.Nat.{_≤_};
 ghost use Rattle.little.specs.Little.{part};
@@ -271,7 +271,7 @@ fn fits_sample(vl: u32, severity: u32, size: LotSize, wrong: u32, wrong_in_all: 
     if size.0 < wrong {
         return false;
     }
-    if wrong <= tables::least_sample(vl) {
+    if wrong <= tables::least_sample(vl).0 {
         return true;
     }
     wrong <= tables::sample_size(vl, severity, size).0

@@ -51,11 +51,11 @@ none-given false true true = refl
 module _ (p : Plan) (f : Figures) (running : isDiscontinued f ≡ false) where
   -- a lot is accepted by its label, its size and its counts
   pub lot-tried : isContinuous p ≡ false → (label N d D : ℕ) → tried p f (askedLot p f label N d D)
-      ≡ enteredIf (not (sameLabel f label) && sizeInRange p N && countsAgree (verdictOn p f d) N (sampleAsked p f N) d D)
+      ≡ enteredIf (not (sameLabel (f .above) label) && sizeInRange p N && countsAgree (verdictOn p f d) N (sampleAsked p f N) d D)
       (stepped p (askedLot p f label N d D) f) f
   unfolding tried accepts firstOf entryRefusals isFull askedLot
   lot-tried lots label N d D = rw (lots, running, eq-eqb (sampleAsked p f N) (sampleAsked p f N) refl)
-      (rw (none-given (sameLabel f label) (sizeInRange p N) (countsAgree (verdictOn p f d) N (sampleAsked p f N) d D)))
+      (rw (none-given (sameLabel (f .above) label) (sizeInRange p N) (countsAgree (verdictOn p f d) N (sampleAsked p f N) d D)))
 
   -- and a stop, on a stream of any plan, by its why and days
   stop-accepts : (why days : ℕ) → accepts p f 0 (Stop why days) ≡ isStop why days

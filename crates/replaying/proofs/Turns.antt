@@ -1,7 +1,7 @@
 -- One turn of a replay: `Ready` of the records that are left is what its loop keeps. Assumes nothing.
 use Prim.Native.Nat.{ℕ, zero, suc, _+_, _*_, _-_, _≤_, _<_}
 use mathlib.Core.Path.{_≡_, refl, sym, ap, _∙_}
-use mathlib.Core.Bool.{Bool, true, false, cond, not}
+use mathlib.Core.Bool.{Bool, true, false, not}
 use mathlib.Core.List.{List}
 use native.Mathlib.Nat.{add-zero, add-suc}
 use native.Mathlib.Numerals.{add-one}
@@ -21,7 +21,7 @@ use Rattle.model.proofs.Booleans.{never-both}
 use Rattle.records.specs.Records.{recordAt}
 use Rattle.records.proofs.Laws.{record-at}
 use Rattle.replaying.specs.declared.Entered.{Entered}
-use Rattle.replaying.specs.Replaying.{entered, recordsIn, figuresTo, standTo, Ready, replayed, soundAt, unsoundAt}
+use Rattle.replaying.specs.Replaying.{entered, recordsIn, figuresTo, standTo, Ready, replayed, soundAt}
 use Rattle.replaying.proofs.Parts.{figures-next, stand-fails, stand-admissible}
 use Rattle.replaying.proofs.Tried.{enteredWith, entered-anywhere}
 
@@ -37,13 +37,9 @@ figures-none p area = refl
 -- ---- a replay's figures, where the records stand and where one does not
 module _ (p : Plan) (area : List ℕ) where
   replayed-sound : (i : ℕ) → replayed p area i .sound ≡ standTo p area i
-  unfolding replayed soundAt unsoundAt
+  unfolding replayed soundAt
   replayed-sound zero = sym (stand-none p area)
-  replayed-sound (suc i) = go (standTo p area (suc i)) _ _
-    where
-      go : (b : Bool) (f g : Figures) → cond b (soundAt f) (unsoundAt g) .sound ≡ b
-      go true f g = refl
-      go false f g = refl
+  replayed-sound (suc i) = refl
 
   replayed-stood : (i : ℕ) → standTo p area i ≡ true → replayed p area i ≡ enteredWith true (figuresTo p area i)
   unfolding replayed soundAt
@@ -60,7 +56,7 @@ module _ (p : Plan) (area : List ℕ) where
   -- the first that does not stand, and the records behind it
   replayed-fails : (i k : ℕ) → standTo p area i ≡ true → standTo p area (suc i) ≡ false
       → replayed p area (suc i + k) ≡ enteredWith false (figuresTo p area i)
-  unfolding replayed unsoundAt
+  unfolding replayed
   replayed-fails i zero e n = rw (add-zero, n, replayed-stood i e)
   replayed-fails i (suc k) e n =
       rw (add-suc, stand-fails p area (suc i) (suc (suc i + k)) (omega arith) n, replayed-fails i k e n)

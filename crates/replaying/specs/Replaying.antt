@@ -126,4 +126,4 @@ pub record Ready (p : Plan) (area : List ℕ) (f : Figures) (from to : ℕ) : Ty
 -- first that does not
 unfoldable pub replayed : Plan → List ℕ → ℕ → Entered
 replayed p area zero = soundAt (started p)
-replayed p area (suc i) = cond (standTo p area (suc i)) (soundAt (figuresTo p area (suc i))) (unsoundAt (replayed p area i .figures))
+replayed p area (suc i) = enteredIf (standTo p area (suc i)) (figuresTo p area (suc i)) (replayed p area i .figures)

@@ -30,7 +30,7 @@ pub const PAUSE: u32 = records::STOP as u32 + 256;
 
 pub const CHANGE: u32 = records::STOP as u32 + 512;
 
-// A record's first four bytes as one number: kind, flag and the two spare bytes are told by one comparison.
+// A record's head: its first four bytes as one number, of kind, flag and the two spare bytes.
 pub fn head_of(read: Record) -> u32
     ensures { λ r. ⌜ (r ≡ headOf read) × (read .kind < 256) × (read .flag < 256) ⌝ }
 {

@@ -1,5 +1,5 @@
 -- Refusals tested up to the last of a call's list (paper 01, "Calls"), and tests of it that calls and replays share. Assumes nothing.
-use Prim.Native.Nat.{ℕ, _+_}
+use Prim.Native.Nat.{ℕ}
 use mathlib.Core.Path.{_≡_}
 use mathlib.Core.Bool.{Bool, cond, not, _&&_}
 use mathlib.Core.List.{List, [], _∷_}
@@ -10,7 +10,7 @@ use Rattle.model.specs.declared.Entry.{Entry}
 use Rattle.model.specs.declared.Entry.the-variants.{Lot, Stop}
 use Rattle.model.specs.declared.Figures.{Figures}
 use Rattle.model.specs.Stations.{within}
-use Rattle.model.specs.Calls.{Refusal, firstOf, entryRefusals}
+use Rattle.model.specs.Calls.{Refusal, firstOf, sameLabel, entryRefusals}
 
 -- a list of refusals without the last
 unfoldable pub earlier : List Refusal → List Refusal
@@ -35,7 +35,7 @@ StopUpToLast f count r = (p : Plan) (why days : ℕ) → UpToLast p f count (Sto
 
 -- what 10 and 11 leave of a lot: another label than the newest lot's, and a size from the least
 unfoldable pub mayFollow : ℕ → ℕ → ℕ → ℕ → Bool
-mayFollow least above label N = not (eqb (label + 1) above) && within least largestLot N
+mayFollow least above label N = not (sameLabel above label) && within least largestLot N
 
 -- what 15 leaves of a stop: with another set-up no days, else at most 255
 unfoldable pub isStop : ℕ → ℕ → Bool

@@ -10,7 +10,7 @@ ghost use lib.Dec.{T, eqb};
 ghost use Rattle.model.specs.declared.Entry.the-variants.{Run, Block};
 ghost use Rattle.model.specs.Sizes.{mostRecords};
 ghost use Rattle.model.specs.Stations.{validPlan, within, isLevel};
-ghost use Rattle.model.specs.Calls.{firstOf, askRefusals, isDiscontinued, sizeInRange, countsAgree};
+ghost use Rattle.model.specs.Calls.{firstOf, askRefusals, isDiscontinued, sameLabel, sizeInRange, countsAgree};
 ghost use Rattle.model.specs.FigureBounds.{FiguresWithin};
 ghost use Rattle.rules.specs.Refusing.{LotUpToLast, RunOrBlockUpToLast, StopUpToLast, mayFollow, isStop};
 use crate::asking;
@@ -138,7 +138,7 @@ pub fn is_discontinued(figures: Figures) -> bool
 
 // 10: the newest standing lot's label again.
 fn is_same_label(above: u64, label: u32) -> bool
-    ensures { λ r. ⌜ r ≡ eqb (label + 1) above ⌝ }
+    ensures { λ r. ⌜ r ≡ sameLabel above label ⌝ }
 {
     label as u64 + 1 == above
 }

@@ -22,44 +22,51 @@ returns : tie.Need-returns
 unfolding headerOf bytes part
 returns c =
     let args = c .before .before .before .before .before .args in
-    part-differs 0 0 16 (args .area .now) (headerOf (args .plan) (args .count) (args .figures)) (lit≤ tt) (decided-not (c .before .has-plan .ensures (args .figures)) (not-true _ (c .if1 .taken)))
+    part-differs 0 0 12 (args .area .now) (headerOf (args .plan) (args .count) (args .figures)) (lit≤ tt) (decided-not (c .before .has-plan .ensures (args .figures)) (not-true _ (c .if1 .taken)))
 
 returns-2 : tie.Need-returns-2
 unfolding headerOf bytes part
 returns-2 c =
-    let args = c .before .before .before .before .before .before .before .before .args in
-    number-differs 0 16 4 (args .figures .credit .0) (args .area .now) (headerOf (args .plan) (args .count) (args .figures)) (lit≤ tt) refl (omega (arith, c .before .struct-known .given))
-    (c .before .before .get-u32 .ensures) (c .if2 .taken)
+    let args = c .before .before .before .before .before .before .before .args in
+    number-differs 0 12 4 0 (args .area .now) (headerOf (args .plan) (args .count) (args .figures)) (lit≤ tt) refl (lit< tt) (c .before .get-u32 .ensures) (c .if2 .taken)
 
 returns-3 : tie.Need-returns-3
 unfolding headerOf bytes part
 returns-3 c =
     let args = c .before .before .before .before .before .before .before .before .before .before .args in
-    part-differs 0 20 4 (args .area .now) (headerOf (args .plan) (args .count) (args .figures)) (lit≤ tt)
-    (decided-not (c .before .has-level .ensures (args .plan) (args .count) (args .figures) refl) (not-true _ (c .if3 .taken)))
+    number-differs 0 16 4 (args .figures .credit .0) (args .area .now) (headerOf (args .plan) (args .count) (args .figures)) (lit≤ tt) refl (omega (arith, c .before .struct-known .given))
+    (c .before .before .get-u322 .ensures) (c .if3 .taken)
 
 returns-4 : tie.Need-returns-4
 unfolding headerOf bytes part
 returns-4 c =
     let args = c .before .before .before .before .before .before .before .before .before .before .before .before .args in
-    part-differs 0 24 8 (args .area .now) (headerOf (args .plan) (args .count) (args .figures)) (lit≤ tt)
-    (decided-not (c .before .has-continuous .ensures (args .plan) (args .count) (args .figures) refl) (not-true _ (c .if4 .taken)))
+    part-differs 0 20 4 (args .area .now) (headerOf (args .plan) (args .count) (args .figures)) (lit≤ tt)
+    (decided-not (c .before .has-level .ensures (args .plan) (args .count) (args .figures) refl) (not-true _ (c .if4 .taken)))
 
 returns-5 : tie.Need-returns-5
 unfolding headerOf bytes part
 returns-5 c =
-    let args = c .before .before .before .before .before .before .before .before .before .before .before .before .before .before .before .args in
-    number-differs 0 32 8 (args .figures .accepted) (args .area .now) (headerOf (args .plan) (args .count) (args .figures)) (lit≤ tt) refl (omega (arith, c .before .struct-known2 .given))
-    (c .before .before .get-u64 .ensures) (c .if5 .taken)
+    let args = c .before .before .before .before .before .before .before .before .before .before .before .before .before .before .args in
+    part-differs 0 24 8 (args .area .now) (headerOf (args .plan) (args .count) (args .figures)) (lit≤ tt)
+    (decided-not (c .before .has-continuous .ensures (args .plan) (args .count) (args .figures) refl) (not-true _ (c .if5 .taken)))
 
 returns-6 : tie.Need-returns-6
 unfolding headerOf bytes part
 returns-6 c =
+    let args = c .before .before .before .before .before .before .before .before .before .before .before .before .before .before .before .before .before .args in
+    number-differs 0 32 8 (args .figures .accepted) (args .area .now) (headerOf (args .plan) (args .count) (args .figures)) (lit≤ tt) refl (omega (arith, c .before .struct-known2 .given))
+    (c .before .before .get-u64 .ensures) (c .if6 .taken)
+
+returns-7 : tie.Need-returns-7
+unfolding headerOf bytes part
+returns-7 c =
     let past-accepted = c .before in
     let past-continuous = past-accepted .before .before .before in
     let past-level = past-continuous .before .before in
     let past-credit = past-level .before .before in
-    let past-plan = past-credit .before .before .before in
+    let past-twelve = past-credit .before .before .before in
+    let past-plan = past-twelve .before .before in
     let known = past-plan .before .before .before .before in
     let area = known .before .args .area .now in
     let p = known .before .args .plan in
@@ -67,10 +74,11 @@ returns-6 c =
     let f = known .before .args .figures in
     let long : length area ≡ areaLength = known .before .pre .0 in
     let are-bytes : AreBytes area = λ i. omega (arith, known .shared-slice-known .given i) in
-    let plan : Compares _ area 0 (part 0 16 (headerOf p n f)) = record { decides = past-plan .before .has-plan .ensures f } in
+    let plan : Compares _ area 0 (part 0 12 (headerOf p n f)) = record { decides = past-plan .before .has-plan .ensures f } in
+    let twelve = number-compares 12 4 0 area are-bytes (omega arith) (lit< tt) (past-twelve .before .get-u32 .ensures) in
     let credit =
     number-compares 16 4 (f .credit .0) area are-bytes (omega arith) (omega (arith, past-credit .before .struct-known .given))
-    (past-credit .before .before .get-u32 .ensures) in
+    (past-credit .before .before .get-u322 .ensures) in
     let level : Compares _ area 20 (part 20 4 (headerOf p n f)) = record { decides = past-level .before .has-level .ensures p n f refl } in
     let continuous : Compares _ area 24 (part 24 8 (headerOf p n f)) =
     record { decides = past-continuous .before .has-continuous .ensures p n f refl } in
@@ -80,14 +88,15 @@ returns-6 c =
     let unused = number-compares 40 8 0 area are-bytes (omega arith) (lit< tt) (c .get-u642 .ensures) in
     rw (
       not-false (past-plan .before .has-plan .result) (past-plan .if1 .left),
-      eq-eqb _ _ (past-credit .if2 .left),
-      not-false (past-level .before .has-level .result) (past-level .if3 .left),
-      not-false (past-continuous .before .has-continuous .result) (past-continuous .if4 .left),
-      eq-eqb _ _ (past-accepted .if5 .left),
+      eq-eqb _ _ (past-twelve .if2 .left),
+      eq-eqb _ _ (past-credit .if3 .left),
+      not-false (past-level .before .has-level .result) (past-level .if4 .left),
+      not-false (past-continuous .before .has-continuous .result) (past-continuous .if5 .left),
+      eq-eqb _ _ (past-accepted .if6 .left),
     ) at
-    (both-compare (both-compare (both-compare (both-compare (both-compare plan credit refl) level refl) continuous refl) accepted refl) unused refl .decides)
+    (both-compare (both-compare (both-compare (both-compare (both-compare (both-compare plan twelve refl) credit refl) level refl) continuous refl) accepted refl) unused refl .decides)
 
 pub has-header-spec : {M : Type 1} → statement M
 has-header-spec =
     tie.close
-    (tie.spec has-plan-requires returns (λ c κs. search needs) returns-2 (λ c κs. search needs) returns-3 (λ c κs. search needs) returns-4 (λ c κs. search needs) returns-5 (λ c κs. search needs) returns-6)
+    (tie.spec has-plan-requires returns (λ c κs. search needs) returns-2 (λ c κs. search needs) returns-3 (λ c κs. search needs) returns-4 (λ c κs. search needs) returns-5 (λ c κs. search needs) returns-6 (λ c κs. search needs) returns-7)

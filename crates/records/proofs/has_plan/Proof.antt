@@ -15,8 +15,7 @@ use Rattle.records.proofs.has_plan.Tie as tie
 returns : tie.Need-returns
 unfolding headerOf countIn bytes part
 returns c f =
-    let at-two = c .before in
-    let at-b = at-two .before .before in
+    let at-b = c .before .before in
     let at-a = at-b .before .before in
     let at-count = at-a .before in
     let at-option = at-count .before .before in
@@ -33,14 +32,11 @@ returns c f =
     let count = number-compares 2 2 n area are-bytes (omega arith) (fits .counts) (at-count .get-count .ensures .0) in
     let a = number-compares 4 4 (p .a) area are-bytes (omega arith) (omega (arith, at-b .before .struct-known3 .given)) (at-a .get-u32 .ensures) in
     let b = number-compares 8 2 (p .b) area are-bytes (omega arith) (fits .intervals) (at-b .get-u16 .ensures) in
-    let two = number-compares 10 2 0 area are-bytes (omega arith) (lit< tt) (at-two .get-u162 .ensures) in
-    let four = number-compares 12 4 0 area are-bytes (omega arith) (lit< tt) (c .get-u322 .ensures) in
-    both-compare
-    (both-compare (both-compare (both-compare (both-compare (both-compare kind option refl) count refl) a refl) b refl) two refl)
-    four refl .decides
+    let two = number-compares 10 2 0 area are-bytes (omega arith) (lit< tt) (c .get-u162 .ensures) in
+    both-compare (both-compare (both-compare (both-compare (both-compare kind option refl) count refl) a refl) b refl) two refl .decides
 
 pub has-plan-spec : {M : Type 1} → statement M
 has-plan-spec =
     tie.close
     (tie.spec (λ c κs. search needs) (λ c κs. search needs) (λ c κs. search needs) (λ c κs. search needs) (λ c κs. search needs) (λ c. search needs)
-    (λ c κs. search needs) (λ c κs. search needs) returns)
+    (λ c κs. search needs) returns)

@@ -20,12 +20,14 @@ returns c =
     let at-continuous = at-accepted .before .before .before .before in
     let at-level = at-continuous .before .before .before .before in
     let at-credit = at-level .before .before .before .before in
-    let at-plan = at-credit .before .before .before .before in
+    let at-twelve = at-credit .before .before .before .before in
+    let at-plan = at-twelve .before .before .before .before in
     let start = at-plan .before .before .before in
     let p = start .args .plan in
     let n = start .args .count in
     let long = start .pre .0 in
-    let credit = then-written 0 _ _ _ (at-plan .put-plan .ensures (start .args .figures)) (at-credit .put-u32 .ensures) refl (omega arith) in
+    let twelve = then-written 0 _ _ _ (at-plan .put-plan .ensures (start .args .figures)) (at-twelve .put-u32 .ensures) refl (omega arith) in
+    let credit = then-written 0 _ _ _ twelve (at-credit .put-u322 .ensures) refl (omega arith) in
     let level = then-written 0 _ _ _ credit (at-level .put-level .ensures p n) refl (omega arith) in
     let continuous = then-written 0 _ _ _ level (at-continuous .put-continuous .ensures p n) refl (omega arith) in
     let accepted = then-written 0 _ _ _ continuous (at-accepted .put-u64 .ensures) refl (omega arith) in
@@ -34,4 +36,4 @@ returns c =
 pub put-header-spec : {M : Type 1} → statement M
 put-header-spec =
     tie.close
-    (tie.spec put-plan-requires (λ c κs. search needs) (λ c κs. search needs) (λ c κs. search needs) (λ c κs. search needs) (λ c κs. search needs) (λ c. search needs) returns)
+    (tie.spec put-plan-requires (λ c κs. search needs) (λ c κs. search needs) (λ c κs. search needs) (λ c κs. search needs) (λ c κs. search needs) (λ c κs. search needs) (λ c. search needs) returns)

@@ -12,19 +12,17 @@ use Rattle.records.proofs.put_plan.Tie as tie
 returns : tie.Need-returns
 unfolding headerOf bytes part
 returns c f =
-    let at-four = c .before .before in
-    let at-two = at-four .before .before .before .before in
+    let at-two = c .before .before in
     let at-b = at-two .before .before .before .before in
     let at-a = at-b .before .before .before .before .before in
     let at-start = at-a .before .before .before .before in
     let long = at-start .before .before .before .before .before .pre .0 in
     let a = then-written 0 _ _ _ (at-start .put-start .ensures) (at-a .put-u32 .ensures) refl (omega arith) in
     let b = then-written 0 _ _ _ a (at-b .put-u16 .ensures) refl (omega arith) in
-    let two = then-written 0 _ _ _ b (at-two .put-u162 .ensures) refl (omega arith) in
-    then-written 0 _ _ _ two (at-four .put-u322 .ensures) refl (omega arith)
+    then-written 0 _ _ _ b (at-two .put-u162 .ensures) refl (omega arith)
 
 pub put-plan-spec : {M : Type 1} → statement M
 put-plan-spec =
     tie.close
     (tie.spec (λ c. search needs) (λ c. search needs) (λ c. search needs) (λ c κs. search needs) (λ c κs. search needs) (λ c. search needs)
-    (λ c κs. search needs) (λ c κs. search needs) (λ c κs. search needs) (λ c. search needs) returns)
+    (λ c κs. search needs) (λ c κs. search needs) (λ c. search needs) returns)
