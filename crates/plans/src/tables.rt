@@ -58,7 +58,7 @@ pub fn least_sample(vl: u32) -> SampleSize
 }
 
 // The code letter of a lot size at the stated verification level.
-pub fn code_letter(vl: usize, size: LotSize) -> usize
+fn code_letter(vl: usize, size: LotSize) -> usize
     requires { ⌜ (1 ≤ vl) × (vl ≤ verificationLevels) ⌝ }
     ensures { λ r. ⌜ (r ≡ codeLetter vl (size .0)) × (r < 5) ⌝ }
 {
