@@ -1,5 +1,6 @@
--- The ranges that paper 01, "Calls", sets to plans and entries, each under the refusal that keeps to it. A contract that has a
--- `requires` asks for no more than these. Assumes nothing.
+-- The ranges that paper 01, "Calls", sets to plans and entries, each under the refusal that keeps to it. Four exported functions of this
+-- crate ask for more, each for what a refusal leaves: a run fits the clearance number (14), the detection heard lies in its block (15),
+-- no more are wrong than the lot has (13), and a level's two counts are below 255, since at most 128 records stand (9). Assumes nothing.
 use Prim.Native.Nat.{ℕ, _*_}
 use mathlib.Core.Bool.{Bool, cond}
 
