@@ -123,4 +123,4 @@ unfolding
     frameCase creditCase levelCase strictCase continuousCase acceptedLots reducedCase wrongLots takenBack discontinuedCase stationAnswers notPermitted fiveBeatTen agreedCase creditEdges continuousEdges
     creditArea levelArea continuousArea
 cases-hold =
-    (refl, refl, refl, refl, refl, refl, refl, refl, refl, refl, refl, refl, refl, refl, (refl, refl), (refl, refl, refl, refl), (refl, refl, refl))
+    (refl, refl, refl, refl, refl, refl, refl, refl, refl, refl, refl, refl, refl, refl, (refl, refl), (refl, refl, refl, refl, refl), (refl, refl, refl))

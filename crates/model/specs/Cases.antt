@@ -1,6 +1,6 @@
--- Cases worked out by hand from paper 01, as calls on stream 0 of a fresh store with their answers: its frame case, its table of proved
--- cases, and the rules that are easily got wrong. Document 000's Table 2 gives 50 for the paper's 48, and 25 for its 24.
--- Assumes nothing.
+-- Cases worked out by hand from paper 01, as calls with their answers, on stream 0 of a fresh store (`Gives`) or on an unopened station
+-- (`StationGives`): its frame case, its table of proved cases, and the rules that are easily got wrong. Document 000's Table 2 gives 50
+-- for the paper's 48, and 25 for its 24. Assumes nothing.
 use Prim.Native.Nat.{ℕ, zero, suc, _-_}
 use mathlib.Core.Path.{_≡_}
 use mathlib.Core.List.{List, [], _∷_, _++_}
@@ -202,6 +202,9 @@ fiveBeatTen =
 unfoldable pub creditEdges : List Step
 creditEdges =
     Read ⇒ refused 6
+    ∷ lot 1 201 51 0 0 ⇒ refused 6
+    ∷ Back ⇒ refused 6
+    ∷ Ask 201 ⇒ refused 6
     ∷ start 4 0 1 0 ⇒ refused 5
     ∷ start 1 0 0 0 ⇒ refused 5
     ∷ start 1 0 500001 0 ⇒ refused 5
@@ -274,7 +277,8 @@ StoreEdges =
     (onStore (zeros 41727) (on 16 Read) .answer ≡ refused 1)
     × (onStore (zeros 41728) (on 16 Read) .answer ≡ refused 2)
     × (onStore (set (zeros 41728) 10 1) (on 0 Read) .answer ≡ refused 3)
-    × (onStore (set (zeros 41728) 10 1) (on 1 Read) .answer ≡ refused 6)
+    × (onStore (set (zeros 41728) 10 1) (on 0 (lot 1 201 51 0 0)) .answer ≡ refused 3)
+    × (onStore (set (zeros 41728) 10 1) (on 1 (lot 1 201 51 0 0)) .answer ≡ refused 6)
 
 -- a credit stream with so many stops takes one more until 128 records stand
 abbrev pub stops : ℕ → List Entry
