@@ -2,13 +2,12 @@
 
 use crate::{said, Done, Setting};
 use outside::at;
+use outside::programs::{printed_by, FRAMES, ROOT};
 use reference::{frame, frames_output, line, plain_frame, Caller, Random, OPEN};
-use std::io::{Read, Write};
-use std::process::{Command, Stdio};
+use std::io::Write;
 use std::time::Duration;
 use std::{fs, io, thread};
 
-const ROOT: &str = concat!(env!("CARGO_MANIFEST_DIR"), "/../..");
 const TEXTS: u64 = 12;
 const LINES: usize = 10_000;
 
@@ -144,7 +143,7 @@ fn overwrite(line: &mut [u8], at: usize, digits: &str) {
 
 /// The program and the reference print the same for this input.
 fn compare(input: &[u8], random: &mut Random) -> Result<(), String> {
-    let printed = run_in_pieces(input, random).map_err(|why| format!("target/bin/frames (rt check frames builds it): {why}"))?;
+    let printed = printed_by(FRAMES, |stdin| write_in_pieces(stdin, input, random))?;
     same_lines(&printed, &frames_output(input))
 }
 
@@ -160,30 +159,6 @@ fn same_lines(ours: &[u8], theirs: &[u8]) -> Result<(), String> {
     let at = same.filter(|(byte, _)| **byte == b'\n').count();
     let (is, expected) = (line_of(ours, at), line_of(theirs, at));
     Err(format!("line {} is '{is}', expected '{expected}'", at + 1))
-}
-
-fn run_in_pieces(input: &[u8], random: &mut Random) -> io::Result<Vec<u8>> {
-    let mut program = Command::new(format!("{ROOT}/target/bin/frames"))
-        .stdin(Stdio::piped())
-        .stdout(Stdio::piped())
-        .spawn()?;
-    let mut stdin = program.stdin.take().expect("piped");
-    let mut stdout = program.stdout.take().expect("piped");
-    let printed = thread::scope(|scope| {
-        let reader = scope.spawn(move || {
-            let mut printed = Vec::new();
-            stdout.read_to_end(&mut printed).map(|_| printed)
-        });
-        let written = write_in_pieces(&mut stdin, input, random);
-        drop(stdin);
-        let printed = reader.join().expect("the reader");
-        written.and(printed)
-    });
-    let status = program.wait()?;
-    if !status.success() {
-        return Err(io::Error::other(format!("the program ended with {status}")));
-    }
-    printed
 }
 
 /// A rest now and then, so that the program reads up to there and no further.

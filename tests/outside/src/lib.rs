@@ -1,7 +1,8 @@
-//! What the tests and the benchmark share: a call of the library by its frame, where two sides differ, and whether an implementation
-//! agrees with the reference.
+//! What the tests and the benchmark share: a call of the library by its frame, where two sides differ, whether an implementation
+//! agrees with the reference, and what a program prints.
 
 pub mod agreement;
+pub mod programs;
 
 use reference::{Answer, Frame, AREA, ARGUMENTS, ASK, BACK, BLOCK, LOT, OPEN, READ, RUN, STOP, STORE, STREAMS};
 

@@ -1,9 +1,12 @@
 //! The program over standard input: one frame a line, one answer a line.
 
 use crate::area::{call_on_store, STORE};
-use crate::calls::{call_of, Frame, ARGUMENTS};
+use crate::calls::{call_of, Answer, Frame, ARGUMENTS};
 
-/// The frame that a line holds; none gives `ff`.
+/// What the program prints for a line that holds no frame.
+pub const NO_FRAME: &str = "ff";
+
+/// The frame that a line holds; none gives [`NO_FRAME`].
 pub fn frame(line: &[u8]) -> Option<Frame> {
     if line.len() != 4 + 8 * ARGUMENTS {
         return None;
@@ -39,6 +42,19 @@ pub fn line(frame: &Frame) -> String {
     format!("{call:02x}{stream:02x}{a:08x}{b:08x}{c:08x}{d:08x}{e:08x}")
 }
 
+/// An answer as the program prints it, without its line feed.
+pub fn answer_line([refusal, first, second, third]: &Answer) -> String {
+    format!("{refusal:02x}{first:08x}{second:08x}{third:08x}")
+}
+
+/// What the program prints for a line over this store, without its line feed.
+pub fn printed(store: &mut [u8], line: &[u8]) -> String {
+    match frame(line) {
+        None => NO_FRAME.into(),
+        Some(frame) => answer_line(&call_on_store(store, &frame)),
+    }
+}
+
 /// All that the program prints for this input.
 pub fn frames_output(input: &[u8]) -> Vec<u8> {
     let mut lines: Vec<&[u8]> = input.split(|byte| *byte == b'\n').collect();
@@ -49,13 +65,8 @@ pub fn frames_output(input: &[u8]) -> Vec<u8> {
     let mut store = vec![0; STORE];
     let mut output = String::new();
     for line in lines {
-        match frame(line) {
-            None => output.push_str("ff\n"),
-            Some(frame) => {
-                let [refusal, first, second, third] = call_on_store(&mut store, &frame);
-                output.push_str(&format!("{refusal:02x}{first:08x}{second:08x}{third:08x}\n"));
-            }
-        }
+        output.push_str(&printed(&mut store, line));
+        output.push('\n');
     }
     output.into_bytes()
 }

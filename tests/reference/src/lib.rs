@@ -20,7 +20,7 @@ pub use area::{
 pub use arguments::{plain_frame, plain_frames};
 pub use backward::{backward_c, backward_credit, backward_phase, backward_tail, backward_window};
 pub use calls::{answer, call_of, entry_of, Answer, Call, Frame, ARGUMENTS, ASK, BACK, BLOCK, LOT, OPEN, READ, RUN, STOP};
-pub use frames::{frame, frames_output, line};
+pub use frames::{answer_line, frame, frames_output, line, printed, NO_FRAME};
 pub use making::Caller;
 pub use random::Random;
 pub use station::{figures, Entry, Figures, Plan, Station, CONTINUOUS, CREDIT, FULL, LEVEL};
