@@ -1,19 +1,17 @@
-//! The outside tests: the proved static library and the proved program, compared with the reference on the papers' own numbers and
-//! on random calls. Each test prints one line; the last line counts them.
+//! The outside tests: the proved static library and the proved program, compared with the reference on random calls. Each test prints
+//! one line; the last line counts them.
 //!
 //!     outside [SEED [TIMES [reach]]]
 //!
 //! SEED (1) gives the random calls; TIMES (1) makes that many times as many of them; `reach` prints how often each state was
 //! reached.
 
-mod cases;
 mod changes;
 mod damage;
 mod demand_three;
 mod forged_areas;
 mod frames_program;
 mod lists;
-mod papers;
 mod reach;
 mod store_lengths;
 mod whole_lists;
@@ -52,8 +50,7 @@ pub struct Done {
 
 type Test = fn(&Setting) -> Result<Done, String>;
 
-const TESTS: [(&str, Test); 9] = [
-    ("papers", papers::test),
+const TESTS: [(&str, Test); 8] = [
     ("store lengths", store_lengths::test),
     ("lists", lists::test),
     ("whole lists", whole_lists::test),

@@ -1,0 +1,86 @@
+/*
+ * Makes calls by include/listening.h on one store, for a case file's runner. A line of standard input holds a call as listening_list
+ * has it: its number, the stream, the arguments. Its answer is printed as a line of numbers. The number 0 with a place and a value
+ * instead writes that byte of the store and prints nothing. Behind the last answer the store's bytes are printed as they are.
+ */
+#include "listening.h"
+
+#include <inttypes.h>
+#include <stdio.h>
+#include <stdlib.h>
+
+static uint8_t store[LISTENING_STORE_LENGTH];
+
+static void stop_reading(const char *why)
+{
+    fprintf(stderr, "calls: %s\n", why);
+    exit(1);
+}
+
+static uint32_t number(void)
+{
+    uint32_t value;
+    if (scanf("%" SCNu32, &value) != 1) {
+        stop_reading("a number is missing");
+    }
+    return value;
+}
+
+static void put_byte(void)
+{
+    uint32_t place = number();
+    uint32_t value = number();
+    if (place >= sizeof store || value > UINT8_MAX) {
+        stop_reading("no byte of the store");
+    }
+    store[place] = (uint8_t)value;
+}
+
+static listening_answer make(uint32_t call, uint32_t stream, const uint32_t *a)
+{
+    switch (call) {
+    case 1:
+        return listening_open(store, sizeof store, stream, a[0], a[1], a[2], a[3]);
+    case 2:
+        return listening_lot(store, sizeof store, stream, a[0], a[1], a[2], a[3], a[4]);
+    case 3:
+        return listening_run(store, sizeof store, stream, a[0], a[1]);
+    case 4:
+        return listening_block(store, sizeof store, stream, a[0], a[1]);
+    case 5:
+        return listening_stop(store, sizeof store, stream, a[0], a[1]);
+    case 6:
+        return listening_back(store, sizeof store, stream);
+    case 7:
+        return listening_ask(store, sizeof store, stream, a[0]);
+    case 8:
+        return listening_read(store, sizeof store, stream);
+    default:
+        stop_reading("no such call");
+        abort();
+    }
+}
+
+static void make_call(uint32_t call)
+{
+    uint32_t stream = number();
+    uint32_t arguments[LISTENING_CALL_LENGTH - 2];
+    for (size_t k = 0; k < sizeof arguments / sizeof arguments[0]; k++) {
+        arguments[k] = number();
+    }
+    listening_answer is = make(call, stream, arguments);
+    printf("%" PRIu32 " %" PRIu32 " %" PRIu32 " %" PRIu32 "\n", is.refusal, is.first, is.second, is.third);
+}
+
+int main(void)
+{
+    uint32_t call;
+    while (scanf("%" SCNu32, &call) == 1) {
+        if (call == 0) {
+            put_byte();
+        } else {
+            make_call(call);
+        }
+    }
+    return fwrite(store, 1, sizeof store, stdout) == sizeof store ? 0 : 1;
+}

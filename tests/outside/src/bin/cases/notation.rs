@@ -1,0 +1,285 @@
+//! What a case file says. A line is one of these:
+//!
+//!     # text                     a heading: a case begins, on a fresh store, and this is its name
+//!                                a blank line: the next line begins a case of its own, on a fresh store
+//!     // text                    a comment, on a line of its own, which ends no case, or behind a line
+//!     lot 1 201 51 0 0 -> 0 1 201 201
+//!                                a call by its name, its arguments, the refusal and the numbers of its answer, all decimal
+//!     stream 3                   the lines up to the end of the case are about this stream; a case begins with stream 0
+//!     bytes 16 4 -> c9 00 00 00  so many bytes of the stream's area from this one on
+//!     sound -> 1                 whether the stream's area is sound
+//!     put 16 c8 00               writes these bytes into the stream's area, as no call does
+//!     frame 06ff -> ff           a line for the program, and the line that it prints; \r is a carriage return
+//!
+//! A line that is none of them, a heading without a line and a file without a case are errors.
+
+use crate::calls::call;
+use reference::{area_at, Answer, Frame, AREA, NO_FRAME, STREAMS};
+use std::fmt;
+use std::ops::Range;
+
+/// Steps that begin on a fresh store.
+pub struct Case {
+    pub name: String,
+    pub steps: Vec<Step>,
+}
+
+pub struct Step {
+    /// The line that says it: its number, its text without the comment, the comment behind it.
+    pub line: usize,
+    pub text: String,
+    pub comment: Option<String>,
+    /// The comment on a line of its own before it.
+    pub title: Option<String>,
+    pub action: Action,
+    /// What it gives; nothing is expected of a `put`.
+    pub expected: Option<Given>,
+}
+
+pub enum Action {
+    Call(Frame),
+    /// A line for the program.
+    Line(Vec<u8>),
+    /// Bytes of the store.
+    Bytes(Range<usize>),
+    /// Whether this stream's area is sound.
+    Sound(u32),
+    /// From this byte of the store on.
+    Put(usize, Vec<u8>),
+}
+
+#[derive(PartialEq)]
+pub enum Given {
+    Answer(Answer),
+    Printed(String),
+    Bytes(Vec<u8>),
+    Sound(bool),
+}
+
+impl fmt::Display for Given {
+    fn fmt(&self, out: &mut fmt::Formatter) -> fmt::Result {
+        match self {
+            Given::Answer([refusal, first, second, third]) => write!(out, "{refusal} {first} {second} {third}"),
+            Given::Printed(line) => write!(out, "'{line}'"),
+            Given::Bytes(bytes) => {
+                let pairs: Vec<String> = bytes.iter().map(|byte| format!("{byte:02x}")).collect();
+                write!(out, "{}", pairs.join(" "))
+            }
+            Given::Sound(sound) => write!(out, "{}", u32::from(*sound)),
+        }
+    }
+}
+
+/// The cases that the text of a file says.
+pub fn cases(text: &str) -> Result<Vec<Case>, String> {
+    let mut reading = Reading::default();
+    for (line, number) in text.split('\n').zip(1..) {
+        reading.take(line, number).map_err(|why| format!("line {number}: {why}"))?;
+    }
+    reading.end()
+}
+
+#[derive(Default)]
+struct Reading {
+    cases: Vec<Case>,
+    /// The last heading, and its line; until a step follows, that none has.
+    heading: Option<(String, usize)>,
+    is_headed: bool,
+    /// Whether the next step goes on with the last case.
+    goes_on: bool,
+    stream: u32,
+    title: Option<String>,
+}
+
+impl Reading {
+    fn take(&mut self, line: &str, number: usize) -> Result<(), String> {
+        if let Some(heading) = line.strip_prefix('#') {
+            return self.head(heading, number);
+        }
+        let (said, comment) = match line.split_once("//") {
+            Some((said, comment)) => (said.trim_end(), Some(comment.trim().to_string())),
+            None => (line.trim_end(), None),
+        };
+        match (said, said.split_once(' ')) {
+            ("", _) if comment.is_some() => self.title = comment,
+            ("", _) => self.end_case(),
+            (_, Some(("stream", stream))) => self.stream = stream_number(stream)?,
+            _ => self.step(said, comment, number)?,
+        }
+        Ok(())
+    }
+
+    fn head(&mut self, heading: &str, number: usize) -> Result<(), String> {
+        self.no_bare_heading()?;
+        match heading.trim() {
+            "" => return Err("a heading without a text".into()),
+            text => self.heading = Some((text.to_string(), number)),
+        }
+        self.is_headed = true;
+        self.end_case();
+        Ok(())
+    }
+
+    fn end_case(&mut self) {
+        self.goes_on = false;
+        self.stream = 0;
+        self.title = None;
+    }
+
+    fn step(&mut self, said: &str, comment: Option<String>, line: usize) -> Result<(), String> {
+        let (action, expected) = step(said, self.stream)?;
+        let step = Step {
+            line,
+            text: said.to_string(),
+            comment,
+            title: self.title.take(),
+            action,
+            expected,
+        };
+        match self.cases.last_mut() {
+            Some(case) if self.goes_on => case.steps.push(step),
+            _ => self.cases.push(Case {
+                name: self.name(line),
+                steps: vec![step],
+            }),
+        }
+        (self.goes_on, self.is_headed) = (true, false);
+        Ok(())
+    }
+
+    /// The heading's own case has its name; one after a blank line has its line beside it.
+    fn name(&self, line: usize) -> String {
+        match &self.heading {
+            Some((heading, _)) if self.is_headed => heading.clone(),
+            Some((heading, _)) => format!("{heading}, from line {line}"),
+            None => format!("from line {line}"),
+        }
+    }
+
+    fn no_bare_heading(&self) -> Result<(), String> {
+        match &self.heading {
+            Some((heading, number)) if self.is_headed => Err(format!("no line follows the heading '{heading}' of line {number}")),
+            _ => Ok(()),
+        }
+    }
+
+    fn end(self) -> Result<Vec<Case>, String> {
+        self.no_bare_heading()?;
+        if self.cases.is_empty() {
+            return Err("no case".into());
+        }
+        Ok(self.cases)
+    }
+}
+
+/// What a line does, and what it gives.
+fn step(said: &str, stream: u32) -> Result<(Action, Option<Given>), String> {
+    if let Some(put) = said.strip_prefix("put ") {
+        return Ok((put_bytes(put, stream)?, None));
+    }
+    let Some((does, gives)) = said.split_once(" -> ") else {
+        return Err("no ' -> '".into());
+    };
+    let (name, rest) = does.split_once(' ').unwrap_or((does, ""));
+    let (action, expected) = match name {
+        "frame" => (Action::Line(rest.replace("\\r", "\r").into_bytes()), printed(gives)?),
+        "bytes" => area_bytes(rest, gives, stream)?,
+        "sound" => (Action::Sound(opened(stream)?), soundness(gives)?),
+        _ => (Action::Call(call(name, stream, &numbers(rest)?)?), answer(gives)?),
+    };
+    Ok((action, Some(expected)))
+}
+
+fn put_bytes(put: &str, stream: u32) -> Result<Action, String> {
+    let (at, pairs) = put.split_once(' ').ok_or("put takes a place and bytes")?;
+    let bytes = byte_pairs(pairs)?;
+    let place = in_area(number(at)?, bytes.len(), stream)?;
+    Ok(Action::Put(place.start, bytes))
+}
+
+fn area_bytes(place: &str, gives: &str, stream: u32) -> Result<(Action, Given), String> {
+    let [at, length] = numbers(place)?[..] else {
+        return Err("bytes takes a place and a length".into());
+    };
+    let bytes = byte_pairs(gives)?;
+    if bytes.len() != length as usize {
+        return Err(format!("{} bytes, not {length}", bytes.len()));
+    }
+    Ok((Action::Bytes(in_area(at, bytes.len(), stream)?), Given::Bytes(bytes)))
+}
+
+fn answer(gives: &str) -> Result<Given, String> {
+    match numbers(gives)?.try_into() {
+        Ok(answer) => Ok(Given::Answer(answer)),
+        Err(_) => Err("an answer is four numbers".into()),
+    }
+}
+
+fn soundness(gives: &str) -> Result<Given, String> {
+    match gives {
+        "0" => Ok(Given::Sound(false)),
+        "1" => Ok(Given::Sound(true)),
+        _ => Err(format!("sound is 1 or 0, not '{gives}'")),
+    }
+}
+
+fn printed(gives: &str) -> Result<Given, String> {
+    if gives == NO_FRAME || answer_in(gives).is_some() {
+        return Ok(Given::Printed(gives.to_string()));
+    }
+    Err(format!("the program prints no '{gives}'"))
+}
+
+/// The answer that the program prints so.
+pub fn answer_in(line: &str) -> Option<Answer> {
+    let number = |digits: Range<usize>| u32::from_str_radix(line.get(digits)?, 16).ok();
+    let answer = [number(0..2)?, number(2..10)?, number(10..18)?, number(18..26)?];
+    (reference::answer_line(&answer) == line).then_some(answer)
+}
+
+/// So many bytes of the store, from this one of the stream's area on.
+fn in_area(at: u32, length: usize, stream: u32) -> Result<Range<usize>, String> {
+    let area = area_at(opened(stream)?);
+    let end = at as usize + length;
+    if end > AREA {
+        return Err(format!("an area has {AREA} bytes, not {end}"));
+    }
+    Ok(area.start + at as usize..area.start + end)
+}
+
+/// A stream that has an area.
+fn opened(stream: u32) -> Result<u32, String> {
+    if stream < STREAMS {
+        Ok(stream)
+    } else {
+        Err(format!("stream {stream} has no area"))
+    }
+}
+
+/// A stream that a frame can hold.
+fn stream_number(word: &str) -> Result<u32, String> {
+    match number(word)? {
+        stream @ ..=255 => Ok(stream),
+        stream => Err(format!("a frame holds no stream {stream}")),
+    }
+}
+
+fn numbers(words: &str) -> Result<Vec<u32>, String> {
+    words.split_whitespace().map(number).collect()
+}
+
+fn number(word: &str) -> Result<u32, String> {
+    let is_decimal = word.bytes().all(|byte| byte.is_ascii_digit());
+    let number = word.parse().ok().filter(|_| is_decimal);
+    number.ok_or(format!("'{word}' is no decimal number of 32 bits"))
+}
+
+fn byte_pairs(words: &str) -> Result<Vec<u8>, String> {
+    words.split_whitespace().map(byte_pair).collect()
+}
+
+fn byte_pair(word: &str) -> Result<u8, String> {
+    let is_pair = word.len() == 2 && word.bytes().all(|byte| matches!(byte, b'0'..=b'9' | b'a'..=b'f'));
+    let byte = u8::from_str_radix(word, 16).ok().filter(|_| is_pair);
+    byte.ok_or(format!("'{word}' is no byte of two digits"))
+}

@@ -1,0 +1,126 @@
+//! The stored run of the program, crates/frames/stdin and stdout, made of cases of tests/cases/paper-01.txt.
+
+use crate::notation::{Action, Case, Given, Step};
+use crate::{place, running};
+use outside::at;
+use reference::{answer_line, line, NO_FRAME};
+use std::fs;
+
+const CASES: &str = "tests/cases/paper-01.txt";
+const INPUT: &str = "crates/frames/stdin";
+const OUTPUT: &str = "crates/frames/stdout";
+
+/// The run begins with this case, by itself.
+const FIRST: &str = "Hexadecimal frames: the whole case";
+/// Then come these together, a line of each in turn: the first beside lines that are no frame, those that keep to one stream on
+/// streams 1 to 14, and the last, which names its streams, as it is.
+const IN_TURN: [&str; 16] = [
+    "Hexadecimal frames: lines that are no frame",
+    "Table of proved cases: credit, A = 10,000",
+    "Table of proved cases: VL-2, normal and tightened",
+    "Table of proved cases: VL-7",
+    "Table of proved cases: continuous, i 116, g 48",
+    "Credit lots: a wrong lot without credit is heard whole, with credit it is returned",
+    "Credit lots: with option 1 a wrong lot is heard whole also with credit, and the credit is lost",
+    "Level lots: what ends reduced",
+    "Level lots: tightened, normal after five accepted in a row, reduced after ten more",
+    "Level lots: ten judged on tightened, discontinued",
+    "Continuous: stops in screening and in sampling",
+    "Calls: the refusals of a credit stream",
+    "Calls: the refusals of a level stream",
+    "Calls: the refusals of a continuous stream",
+    "Calls: 128 records stand, on a stream that the last lot discontinues",
+    "Calls: a stream above 15, and one that is not opened",
+];
+/// The refusals that the program can give: its store has the right length, and only calls write it.
+const REFUSALS: [u32; 14] = [2, 4, 5, 6, 7, 8, 9, 10, 11, 12, 13, 14, 15, 16];
+
+/// A line of the input, and the line that it gives.
+type Exchange = (Vec<u8>, String);
+
+pub fn write() -> Result<(), String> {
+    let (input, output) = texts()?;
+    for (file, text) in [(INPUT, input), (OUTPUT, output)] {
+        fs::write(place(file), text).map_err(|why| format!("{file}: {why}"))?;
+    }
+    println!("{INPUT} and {OUTPUT} are written; rt check frames compares them with the program");
+    Ok(())
+}
+
+/// The stored files are what the cases give, and every refusal that the program can give is among them.
+pub fn test() -> Result<(), String> {
+    let (input, output) = texts()?;
+    for (file, text) in [(INPUT, input), (OUTPUT, output)] {
+        let stored = fs::read(place(file)).map_err(|why| format!("{file}: {why}"))?;
+        if stored != text {
+            return Err(format!("{file} is not what {CASES} gives: 'cases stored-run' writes it"));
+        }
+    }
+    Ok(())
+}
+
+/// The run's input and output. The input's last line has no line feed.
+fn texts() -> Result<(Vec<u8>, Vec<u8>), String> {
+    let exchanges = exchanges()?;
+    complete(&exchanges)?;
+    let (lines, answers): (Vec<Vec<u8>>, Vec<String>) = exchanges.into_iter().unzip();
+    Ok((lines.join(&b'\n'), (answers.join("\n") + "\n").into_bytes()))
+}
+
+fn exchanges() -> Result<Vec<Exchange>, String> {
+    let cases = at(|| CASES.into(), running::read(&place(CASES)))?;
+    let mut exchanges = exchanges_of(named(&cases, FIRST)?, 0);
+    let mut stream = 0;
+    let mut waiting = Vec::new();
+    for name in IN_TURN {
+        let case = named(&cases, name)?;
+        stream += u32::from(keeps_to_stream_0(case));
+        waiting.push(exchanges_of(case, stream).into_iter());
+    }
+    while !waiting.is_empty() {
+        exchanges.extend(waiting.iter_mut().filter_map(Iterator::next));
+        waiting.retain(|rest| rest.len() > 0);
+    }
+    Ok(exchanges)
+}
+
+fn named<'a>(cases: &'a [Case], name: &str) -> Result<&'a Case, String> {
+    cases
+        .iter()
+        .find(|case| case.name == name)
+        .ok_or(format!("{CASES} has no case '{name}'"))
+}
+
+/// Whether it is of calls, all on stream 0, and so can be made on another stream as well.
+fn keeps_to_stream_0(case: &Case) -> bool {
+    let on_stream_0 = |step: &Step| matches!(&step.action, Action::Call(frame) if frame.stream == 0);
+    case.steps.iter().all(on_stream_0)
+}
+
+/// The lines of a case, on this stream where it keeps to one.
+fn exchanges_of(case: &Case, stream: u32) -> Vec<Exchange> {
+    let moves = keeps_to_stream_0(case);
+    let exchange = |step: &Step| match (&step.action, &step.expected) {
+        (Action::Call(frame), Some(Given::Answer(answer))) => {
+            let mut frame = *frame;
+            if moves {
+                frame.stream = stream;
+            }
+            Some((line(&frame).into_bytes(), answer_line(answer)))
+        }
+        (Action::Line(text), Some(Given::Printed(printed))) => Some((text.clone(), printed.clone())),
+        _ => None,
+    };
+    case.steps.iter().filter_map(exchange).collect()
+}
+
+/// Every refusal that the program can give is there, and a line that is no frame.
+fn complete(exchanges: &[Exchange]) -> Result<(), String> {
+    let refusals = REFUSALS.map(|refusal| answer_line(&[refusal, 0, 0, 0]));
+    for wanted in refusals.into_iter().chain([NO_FRAME.into()]) {
+        if exchanges.iter().all(|(_, answer)| *answer != wanted) {
+            return Err(format!("no line of the stored run gives {wanted}"));
+        }
+    }
+    Ok(())
+}
