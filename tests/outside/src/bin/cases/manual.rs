@@ -26,13 +26,11 @@ pub fn test() -> Result<(), String> {
     let tables = tables()?;
     let given = tables.iter().filter(|line| !line.is_empty());
     for (k, line) in given.clone().enumerate() {
-        match stands.get(k) {
-            Some(stood) if stood == line => {}
-            stood => {
-                return Err(format!(
-                    "{MANUAL} has {stood:?} where {CASES} gives '{line}': 'cases manual-day' prints the tables"
-                ))
-            }
+        let stood = stands.get(k).copied().unwrap_or("nothing");
+        if stood != line {
+            return Err(format!(
+                "{MANUAL} has '{stood}' where {CASES} gives '{line}': 'cases manual-day' prints the tables"
+            ));
         }
     }
     match stands.get(given.count()) {

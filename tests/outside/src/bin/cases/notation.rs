@@ -82,9 +82,9 @@ pub fn cases(text: &str) -> Result<Vec<Case>, String> {
 #[derive(Default)]
 struct Reading {
     cases: Vec<Case>,
-    /// The last heading, and its line; until a step follows, that none has.
+    /// The last heading and its line, and whether no step has followed it yet.
     heading: Option<(String, usize)>,
-    is_headed: bool,
+    is_bare: bool,
     /// Whether the next step goes on with the last case.
     goes_on: bool,
     stream: u32,
@@ -115,7 +115,7 @@ impl Reading {
             "" => return Err("a heading without a text".into()),
             text => self.heading = Some((text.to_string(), number)),
         }
-        self.is_headed = true;
+        self.is_bare = true;
         self.end_case();
         Ok(())
     }
@@ -143,14 +143,14 @@ impl Reading {
                 steps: vec![step],
             }),
         }
-        (self.goes_on, self.is_headed) = (true, false);
+        (self.goes_on, self.is_bare) = (true, false);
         Ok(())
     }
 
     /// The heading's own case has its name; one after a blank line has its line beside it.
     fn name(&self, line: usize) -> String {
         match &self.heading {
-            Some((heading, _)) if self.is_headed => heading.clone(),
+            Some((heading, _)) if self.is_bare => heading.clone(),
             Some((heading, _)) => format!("{heading}, from line {line}"),
             None => format!("from line {line}"),
         }
@@ -158,7 +158,7 @@ impl Reading {
 
     fn no_bare_heading(&self) -> Result<(), String> {
         match &self.heading {
-            Some((heading, number)) if self.is_headed => Err(format!("no line follows the heading '{heading}' of line {number}")),
+            Some((heading, number)) if self.is_bare => Err(format!("no line follows the heading '{heading}' of line {number}")),
             _ => Ok(()),
         }
     }
