@@ -1,9 +1,6 @@
-// The listening controller: paper 01's eight calls on a lent store of sixteen streams, and whole lists of calls. No call asks
-// anything of its caller: bad input gets a refusal number, and the store stays as it was. A call looks at its stream, which gives
-// refusals 1, 2, 3 and 6 in one place; it tests its own refusals; an entry is then tried by the step of its plan; and what changed is
-// written in the stream's area.
-pub mod lists;
-
+// The listening controller: paper 01's eight calls on a lent store of sixteen streams. No call asks anything of its caller: bad input
+// gets a refusal number, and the store stays as it was. A call looks at its stream, which gives refusals 1, 2, 3 and 6 in one place; it
+// tests its own refusals; an entry is then tried by the step of its plan; and what changed is written in the stream's area.
 ghost use mathlib.Core.Path.{_≡_};
 ghost use Prim.Native.Nat.{_+_, _<_};
 ghost use lib.Dec.{T};

@@ -6,8 +6,7 @@ ghost use Rattle.model.specs.declared.Call.the-variants.{Open, Enter, Back, Ask
 ghost use Rattle.model.specs.Store.{onStore};
 ghost use Rattle.model.specs.Claims.{on};
 ghost use Rattle.listening.specs.Handed.{planOf};
-ghost use Rattle.listening.specs.Lists.{Listed};
-use listening::lists;
+ghost use Rattle.lists.specs.Lists.{Listed};
 use model::Answer;
 
 #[no_mangle]

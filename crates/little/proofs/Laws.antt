@@ -159,6 +159,19 @@ written-next at a b s h =
     sym (drop-drop (length b) _ (written at a s)) ∙ ap (drop (length b)) (drop-written at a s fits) ∙ drop-drop (length b) _ s in
     rw (take-through at a s fits, after) (simp (length-append, append-assoc, add-assoc))
 
+-- a write, and one behind it
+pub then-written : (at : ℕ) {next : ℕ} (a b : List ℕ) (s : List ℕ) {t u : List ℕ} → t ≡ written at a s → u ≡ written next b t → next ≡ at + length a → next + length b ≤ length s → u ≡ written at (a ++ b) s
+then-written at a b s p q e fits = q ∙ rw (p, e) (written-next at a b s (omega arith))
+
+-- a list that a write gave is as long as before
+pub length-after : (at : ℕ) (b s : List ℕ) {t : List ℕ} → t ≡ written at b s → at + length b ≤ length s → length t ≡ length s
+length-after at b s e fits = rw e (length-written at b s fits)
+
+-- a write, and a store behind it
+pub then-set : (at : ℕ) {next : ℕ} (a : List ℕ) (x : ℕ) (s : List ℕ) {t : List ℕ} → t ≡ written at a s → next ≡ at + length a → next < length s → set t next x ≡ written at (a ++ (x ∷ [])) s
+then-set at {next} a x s {t} p e h =
+    then-written at a (x ∷ []) s p (set-written next x t (omega (arith, length-after at a s p (omega arith)))) e (omega arith)
+
 -- a part, and what stands behind it
 pub part-and-rest : (at k : ℕ) (s : List ℕ) → part at k s ++ drop (at + k) s ≡ drop at s
 unfolding part

@@ -1,4 +1,4 @@
--- Parts of a list of bytes and what they hold, writes one behind the other, and tests that decide a statement.
+-- Parts of a list of bytes and what they hold, and tests that decide a statement.
 -- Assumes nothing.
 use mathlib.Core.Path.{_≡_, refl, sym, ap, _∙_}
 use mathlib.Core.Bool.{Bool, false, _&&_}
@@ -7,11 +7,11 @@ use Prim.Native.Nat.{ℕ, zero, suc, _+_, _*_, _^_, _≤_, _<_}
 use native.Mathlib.Nat.{add-zero, add-assoc}
 use native.Mathlib.Omega.{arith}
 use lib.Dec.{T, eqb, lit<, lit≤}
-use lib.ListN.{length, drop, getD, set, length-append, length-take, length-drop}
+use lib.ListN.{length, drop, getD, length-append, length-take, length-drop}
 use lib.Seq.{getD-take, getD-drop, drop-cons, drop-drop, take-add, take-at, drop-at, take-all, ext-getD}
 use borrow.Author.Tests.{eqb-true, eq-eqb}
-use Rattle.little.specs.Little.{bytes, value, part, written, AreBytes}
-use Rattle.little.proofs.Laws.{length-bytes, value-bytes, value-range, bytes-value, length-part, length-written, set-written, written-next}
+use Rattle.little.specs.Little.{bytes, value, part, AreBytes}
+use Rattle.little.proofs.Laws.{length-bytes, value-bytes, value-range, bytes-value, length-part}
 use Rattle.model.specs.Sizes.{recordLength, headerLength, mostRecords}
 use Rattle.model.specs.declared.Plan.{Plan}
 use Rattle.model.specs.Stations.{validPlan}
@@ -118,21 +118,6 @@ pub plan-fits : (p : Plan) (count : ℕ) → T (validPlan p) → count ≤ mostR
 plan-fits p count valid room =
     let range = plan-range p valid in
     record { kinds = omega arith; options = omega arith; intervals = omega arith; counts = omega arith }
-
--- ---- writes
-
--- a write, and one behind it
-pub then-written : (at : ℕ) {next : ℕ} (a b : List ℕ) (s : List ℕ) {t u : List ℕ} → t ≡ written at a s → u ≡ written next b t → next ≡ at + length a → next + length b ≤ length s → u ≡ written at (a ++ b) s
-then-written at a b s p q e fits = q ∙ rw (p, e) (written-next at a b s (omega arith))
-
--- a list that a write gave is as long as before
-pub length-after : (at : ℕ) (b s : List ℕ) {t : List ℕ} → t ≡ written at b s → at + length b ≤ length s → length t ≡ length s
-length-after at b s e fits = rw e (length-written at b s fits)
-
--- a write, and a store behind it
-pub then-set : (at : ℕ) {next : ℕ} (a : List ℕ) (x : ℕ) (s : List ℕ) {t : List ℕ} → t ≡ written at a s → next ≡ at + length a → next < length s → set t next x ≡ written at (a ++ (x ∷ [])) s
-then-set at {next} a x s {t} p e h =
-    then-written at a (x ∷ []) s p (set-written next x t (omega (arith, length-after at a s p (omega arith)))) e (omega arith)
 
 -- ---- tests
 

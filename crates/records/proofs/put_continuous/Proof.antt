@@ -7,7 +7,7 @@ use mathlib.Core.List.{[]}
 use Rattle.little.specs.Little.{bytes, part}
 use lib.ListN.{length-set}
 use Rattle.model.specs.Area.{headerOf, planIn}
-use Rattle.records.proofs.Laws.{then-written, then-set, length-after}
+use Rattle.little.proofs.Laws.{then-written, then-set, length-after}
 use Rattle.records.proofs.put_continuous.Statement.{statement}
 use Rattle.records.proofs.put_continuous.Tie as tie
 

@@ -5,7 +5,8 @@ use native.Mathlib.Omega.{arith}
 use mathlib.Core.Path.{refl}
 use Rattle.little.specs.Little.{bytes, part}
 use Rattle.model.specs.Area.{headerOf}
-use Rattle.records.proofs.Laws.{plan-fits, then-written}
+use Rattle.little.proofs.Laws.{then-written}
+use Rattle.records.proofs.Laws.{plan-fits}
 use Rattle.records.proofs.put_header.Statement.{statement}
 use Rattle.records.proofs.put_header.Tie as tie
 

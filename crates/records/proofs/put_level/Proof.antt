@@ -4,9 +4,8 @@ use borrow.Author.Needs.{needs}
 use native.Mathlib.Omega.{arith}
 use mathlib.Core.Path.{refl}
 use Rattle.little.specs.Little.{bytes, part}
-use Rattle.little.proofs.Laws.{set-written}
+use Rattle.little.proofs.Laws.{set-written, then-set}
 use Rattle.model.specs.Area.{headerOf}
-use Rattle.records.proofs.Laws.{then-set}
 use Rattle.records.proofs.put_level.Statement.{statement}
 use Rattle.records.proofs.put_level.Tie as tie
 

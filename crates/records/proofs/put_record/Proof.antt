@@ -5,7 +5,7 @@ use native.Mathlib.Omega.{arith}
 use mathlib.Core.Path.{refl}
 use Rattle.little.specs.Little.{bytes}
 use Rattle.model.specs.Records.{recordBytes}
-use Rattle.records.proofs.Laws.{then-written}
+use Rattle.little.proofs.Laws.{then-written}
 use Rattle.records.proofs.put_record.Statement.{statement}
 use Rattle.records.proofs.put_record.Tie as tie
 

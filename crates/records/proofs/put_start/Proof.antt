@@ -5,8 +5,7 @@ use native.Mathlib.Omega.{arith}
 use mathlib.Core.Path.{refl}
 use mathlib.Core.List.{[], _∷_}
 use Rattle.little.specs.Little.{bytes}
-use Rattle.little.proofs.Laws.{set-written}
-use Rattle.records.proofs.Laws.{then-written, then-set, length-after}
+use Rattle.little.proofs.Laws.{set-written, then-written, then-set, length-after}
 use lib.ListN.{length-set}
 use Rattle.records.proofs.put_start.Statement.{statement}
 use Rattle.records.proofs.put_start.Tie as tie

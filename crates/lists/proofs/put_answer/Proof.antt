@@ -1,13 +1,12 @@
-use Rattle.listening.specs.Lists.{answerLength, numbersOf}
-use Rattle.records.proofs.Laws.{then-set}
-use Rattle.little.proofs.Laws.{set-written}
+use Rattle.lists.specs.Lists.{answerLength, numbersOf}
+use Rattle.little.proofs.Laws.{set-written, then-set}
 use lib.ListN.{length-set}
 use Prim.Native.Nat.{ℕ, _+_, _*_}
 use mathlib.Core.List.{List, [], _∷_}
 use native.Mathlib.Omega.{arith}
 use borrow.Author.Needs.{needs}
-use Rattle.listening.proofs.lists.put_answer.Statement.{statement}
-use Rattle.listening.proofs.lists.put_answer.Tie as tie
+use Rattle.lists.proofs.put_answer.Statement.{statement}
+use Rattle.lists.proofs.put_answer.Tie as tie
 
 slice-write-answers-2 : tie.Need-slice-write-answers-2
 slice-write-answers-2 c = simp (length-set) (omega arith)

@@ -1,7 +1,7 @@
-use Rattle.listening.proofs.ListLaws.{one-made, one-passed}
+use Rattle.lists.proofs.ListLaws.{one-made, one-passed}
 use borrow.Author.Needs.{needs}
-use Rattle.listening.proofs.lists.make_one.Statement.{statement}
-use Rattle.listening.proofs.lists.make_one.Tie as tie
+use Rattle.lists.proofs.make_one.Statement.{statement}
+use Rattle.lists.proofs.make_one.Tie as tie
 
 returns : tie.Need-returns
 returns c =

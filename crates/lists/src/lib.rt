@@ -7,8 +7,7 @@ ghost use lib.ListN.{length};
 ghost use Rattle.little.specs.Little.{written};
 ghost use Rattle.model.specs.Store.{storeAfter, answersTo};
 ghost use Rattle.numbering.specs.Numbers.{requestOf};
-ghost use Rattle.listening.specs.Lists.{callLength, answerLength, frameAt, isMade, allMade, requestsTo, numbersOf, Listed};
-use crate::make;
+ghost use Rattle.lists.specs.Lists.{callLength, answerLength, frameAt, isMade, allMade, requestsTo, numbersOf, Listed};
 use model::Answer;
 use numbering::ARGUMENTS;
 use numbering::Frame;
@@ -73,7 +72,7 @@ fn make_one(store: &mut [u8], calls: &[u32], i: usize, answers: &mut [u32])
     let frame = frame_at(calls, i);
     match frame {
         Frame::Made { stream, call } => {
-            let answer = make(store, stream, call);
+            let answer = listening::make(store, stream, call);
             put_answer(answers, i, answer);
         }
         Frame::Bad => {}

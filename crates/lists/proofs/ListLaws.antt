@@ -22,7 +22,7 @@ use Rattle.numbering.specs.declared.Frame.{Frame}
 use Rattle.numbering.specs.declared.Frame.the-variants.{Made, Bad}
 use Rattle.numbering.specs.Numbers.{frameArguments, requestOf}
 use Rattle.numbering.proofs.Small.{numbered-small, words-before}
-use Rattle.listening.specs.Lists.{callLength, answerLength, frameAt, isMade, allMade, requestsTo, numbersOf, callsIn, isList, pastIn, Listed}
+use Rattle.lists.specs.Lists.{callLength, answerLength, frameAt, isMade, allMade, requestsTo, numbersOf, callsIn, isList, pastIn, Listed}
 
 answers-after : (store : List ℕ) (first second : List Request)
     → answersTo store (first ++ second) ≡ answersTo store first ++ answersTo (storeAfter store first) second

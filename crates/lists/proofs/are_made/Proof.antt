@@ -1,12 +1,12 @@
 -- The loop's invariant: the flag says whether the first i calls exist. The measure is how many are left.
-use Rattle.listening.specs.Lists.{allMade}
+use Rattle.lists.specs.Lists.{allMade}
 use borrow.Author.Needs.{needs}
 use native.Mathlib.Numerals.{add-one}
 use native.Mathlib.Omega.{arith}
 use mathlib.Core.Path.{_≡_, refl}
 use Prim.Native.Nat.{_≤_, _-_}
-use Rattle.listening.proofs.lists.are_made.Statement.{statement}
-use Rattle.listening.proofs.lists.are_made.Tie as tie
+use Rattle.lists.proofs.are_made.Statement.{statement}
+use Rattle.lists.proofs.are_made.Tie as tie
 
 abbrev Inv-loop : tie.InvT-loop
 Inv-loop calls count made₀ i₀ made i = (i ≤ count) × (made ≡ allMade calls i)

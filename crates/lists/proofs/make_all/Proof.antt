@@ -1,14 +1,14 @@
-use Rattle.listening.specs.Lists.{requestsTo, numbersOf}
+use Rattle.lists.specs.Lists.{requestsTo, numbersOf}
 use mathlib.Core.Path.{_≡_, refl, _∙_}
 use Prim.Native.Nat.{suc, _≤_, _-_}
-use Rattle.listening.proofs.ListLaws.{none-made, turn-made, answers-all, made-before}
+use Rattle.lists.proofs.ListLaws.{none-made, turn-made, answers-all, made-before}
 use Rattle.model.specs.Store.{storeAfter, answersTo}
 use Rattle.little.specs.Little.{written}
 use lib.ListN.{length}
 use borrow.Author.Needs.{needs}
 use native.Mathlib.Omega.{arith}
-use Rattle.listening.proofs.lists.make_all.Statement.{statement}
-use Rattle.listening.proofs.lists.make_all.Tie as tie
+use Rattle.lists.proofs.make_all.Statement.{statement}
+use Rattle.lists.proofs.make_all.Tie as tie
 
 abbrev Inv-loop : tie.InvT-loop
 Inv-loop store₀ calls count answers₀ i₀ store answers i = (i ≤ count) × (store ≡ storeAfter store₀ (requestsTo calls i)) × (answers ≡ written 0 (numbersOf (answersTo store₀ (requestsTo calls i))) answers₀) × (length store ≡ length store₀) × (length answers ≡ length answers₀)

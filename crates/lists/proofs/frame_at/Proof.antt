@@ -8,10 +8,10 @@ use lib.Seq.{take-suc-set, take-all}
 use Rattle.little.specs.Little.{part}
 use Rattle.little.proofs.Laws.{part-next}
 use Rattle.numbering.specs.Numbers.{frameArguments}
-use Rattle.listening.specs.Lists.{callLength, frameAt}
+use Rattle.lists.specs.Lists.{callLength, frameAt}
 use borrow.Author.Needs.{needs}
-use Rattle.listening.proofs.lists.frame_at.Statement.{statement}
-use Rattle.listening.proofs.lists.frame_at.Tie as tie
+use Rattle.lists.proofs.frame_at.Statement.{statement}
+use Rattle.lists.proofs.frame_at.Tie as tie
 
 abbrev Inv-loop : tie.InvT-loop
 Inv-loop calls i at arguments₀ k₀ arguments k =

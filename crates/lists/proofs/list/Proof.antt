@@ -1,11 +1,11 @@
-use Rattle.listening.specs.Lists.{callsIn}
-use Rattle.listening.proofs.ListLaws.{list-refused, list-made, odd-numbers, other-room, by-calls}
+use Rattle.lists.specs.Lists.{callsIn}
+use Rattle.lists.proofs.ListLaws.{list-refused, list-made, odd-numbers, other-room, by-calls}
 use borrow.Author.Tests.{not-true, not-false}
 use native.Mathlib.Omega.{arith}
 use mathlib.Core.Path.{sym, _∙_}
 use borrow.Author.Needs.{needs}
-use Rattle.listening.proofs.lists.list.Statement.{statement}
-use Rattle.listening.proofs.lists.list.Tie as tie
+use Rattle.lists.proofs.list.Statement.{statement}
+use Rattle.lists.proofs.list.Tie as tie
 
 returns : tie.Need-returns
 returns c = list-refused (odd-numbers _ _ (c .if1 .taken))

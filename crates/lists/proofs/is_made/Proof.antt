@@ -1,8 +1,8 @@
-use Rattle.listening.specs.Lists.{isMade}
+use Rattle.lists.specs.Lists.{isMade}
 use mathlib.Core.Path.{sym, ap}
 use borrow.Author.Needs.{needs}
-use Rattle.listening.proofs.lists.is_made.Statement.{statement}
-use Rattle.listening.proofs.lists.is_made.Tie as tie
+use Rattle.lists.proofs.is_made.Statement.{statement}
+use Rattle.lists.proofs.is_made.Tie as tie
 
 returns : tie.Need-returns
 unfolding isMade

@@ -1,0 +1,2 @@
+-- Laws of whole lists of calls.
+pub mod ListLaws

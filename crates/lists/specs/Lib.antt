@@ -1,0 +1,2 @@
+-- What the contract of a list of calls cites.
+pub mod Lists
