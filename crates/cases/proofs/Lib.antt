@@ -1,1 +1,2 @@
+-- The theorem over the table of proved cases, which the contracts of the code cite.
 pub mod Theorem

@@ -1,4 +1,5 @@
--- The program fed in pieces prints what it prints for its lines. Assumes nothing.
+-- The program fed in pieces prints what it prints for its lines: by induction over the bytes, where what is kept of an unfinished line is
+-- all of it, or both are too long for a frame. Assumes nothing.
 use mathlib.Core.Path.{_≡_, refl, sym, ap, _∙_}
 use mathlib.Core.Logic.{_⊎_, inl, inr, ⊎-elim}
 use mathlib.Core.Bool.{Bool, true, false, cond, _&&_}

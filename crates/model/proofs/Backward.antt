@@ -1,4 +1,5 @@
--- The figures that the forward rules leave are those worked out backwards from the standing entries. Assumes nothing.
+-- The figures that the forward rules leave are those worked out backwards from the standing entries: by induction over the entries, for
+-- credit, marks and state each. Assumes nothing.
 use Prim.Native.Nat.{ℕ, zero, suc, _+_, _-_, _≤_}
 use mathlib.Core.Path.{_≡_, refl, sym, ap, _∙_}
 use mathlib.Core.Bool.{Bool, true, false, cond, _&&_, _||_}

@@ -1,4 +1,5 @@
--- How far the standing entries can take a stream's figures: what keeps the figures in their bytes. Assumes nothing.
+-- How far the standing entries can take a stream's figures: what keeps the figures in their bytes. By induction over the entries, each of
+-- which adds at most a lot to a sum and one to a count. Assumes nothing.
 use Prim.Native.Nat.{ℕ, suc, _+_, _*_, _-_, _≤_}
 use mathlib.Core.Path.{_≡_, refl}
 use mathlib.Core.Bool.{true, cond, _&&_, _||_}

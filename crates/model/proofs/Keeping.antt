@@ -1,4 +1,5 @@
--- A call keeps a station one that calls could have left; its answer is a refusal, or has refusal number 0. Assumes nothing.
+-- A call keeps a station one that calls could have left; its answer is a refusal, or has refusal number 0. By the station and the call.
+-- Assumes nothing.
 use Prim.Native.Nat.{ℕ, _^_, _<_}
 use mathlib.Core.Path.{_≡_, refl}
 use mathlib.Core.Bool.{Bool, true, false, not, cond, _&&_}

@@ -1,4 +1,5 @@
--- A call on an area: it keeps the area's length, and a refusal keeps its bytes. Assumes nothing.
+-- A call on an area: it keeps the area's length, and a refusal keeps its bytes. By whether the reading finds a station there. Assumes
+-- nothing.
 use Prim.Native.Nat.{ℕ}
 use mathlib.Core.Path.{_≡_, refl}
 use mathlib.Core.Bool.{Bool, true, false, cond}

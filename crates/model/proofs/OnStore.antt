@@ -1,4 +1,5 @@
--- A call on the store keeps to its stream's area: the claim KeepsToItsArea. Assumes nothing.
+-- A call on the store keeps to its stream's area: the claim KeepsToItsArea. By the store's length and the stream, of which two refuse and
+-- one leads to a write inside the area. Assumes nothing.
 use Prim.Native.Nat.{ℕ, _+_, _≤_, _<_}
 use mathlib.Core.Path.{_≡_, refl, sym, ap, _∙_}
 use mathlib.Core.Logic.{_⊎_, inl, inr}

@@ -1,4 +1,5 @@
--- The reading decides soundness: the claim DecidesSoundness. Assumes nothing.
+-- The reading decides soundness: the claim DecidesSoundness. A station that is read was left by its Open and its entries, oldest first,
+-- and what accepted calls leave is read back (`AreaReading`); over the calls, by induction. Assumes nothing.
 use Prim.Native.Nat.{ℕ}
 use mathlib.Core.Path.{_≡_, refl, sym, ap, _∙_}
 use mathlib.Core.Logic.{inl, inr}

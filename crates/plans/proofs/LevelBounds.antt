@@ -1,4 +1,5 @@
--- How far a lot or a stop can take a level stream's state: what keeps the state in its bytes. Assumes nothing.
+-- How far a lot or a stop can take a level stream's state: what keeps the state in its bytes. Every test picks one of two states within
+-- the bounds. Assumes nothing.
 use Prim.Native.Nat.{ℕ, _+_, _%_, _≤_}
 use mathlib.Core.Bool.{Bool, cond, _&&_, _||_}
 use native.Mathlib.Omega.{arith}

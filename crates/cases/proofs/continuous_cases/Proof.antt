@@ -1,3 +1,4 @@
+-- The run and the two blocks are in range, as their contracts compute; the two numbers are then the theorem's third part.
 use native.Mathlib.Omega.{arith}
 use Rattle.plans.specs.Continuous.{screening, afterBlock}
 use Rattle.cases.proofs.Theorem.{proved-cases}

@@ -1,3 +1,4 @@
+-- Each of the five calls gives what the definition gives at its numbers, and that list is the theorem's second part.
 use Rattle.cases.proofs.Theorem.{proved-cases}
 use Rattle.cases.specs.Cases.{levelCases, givenIn, statedIn}
 use borrow.Author.Needs.{needs}

@@ -1,3 +1,4 @@
+-- The contract is the theorem itself.
 use Rattle.cases.proofs.Theorem.{proved-cases}
 use Rattle.cases.proofs.table_holds.Statement.{statement}
 use Rattle.cases.proofs.table_holds.Tie as tie

@@ -1,3 +1,4 @@
+-- Below ten a digit is counted on from `0`, else from `a`, and the definition asks the same.
 use Rattle.frame_text.specs.Digits.{digitOf}
 use borrow.Author.Tests.{lt-ltb, le-ltb}
 use native.Mathlib.Omega.{arith}

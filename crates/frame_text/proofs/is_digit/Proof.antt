@@ -1,3 +1,4 @@
+-- The code asks for the same two ranges as the definition.
 use mathlib.Core.Path.{refl}
 use Rattle.model.specs.Stations.{within}
 use Rattle.frame_text.specs.Digits.{digit}

@@ -1,3 +1,5 @@
+-- `Words` has what the eight digits are after each joining of neighbours, and so their value; what is left here is that no sum or product
+-- overflows, since each number has room for as many bits more.
 use Prim.Native.Nat.{_/_, _≤_}
 use native.Mathlib.Omega.{arith}
 use lib.Bits.{and-le-r}

@@ -1,3 +1,4 @@
+-- Four writes and a store, each behind the one before, are one write of the answer's text: `one-line`.
 use Rattle.frame_text.proofs.Laws.{length-digits, length-answer, write-on, store-on}
 use Rattle.frame_text.specs.Digits.{digitsOf}
 use Rattle.frame_text.specs.Answers.{lineFeed, textLength, answerText}

@@ -1,3 +1,4 @@
+-- Three stores, each behind the one before, are one write of `ff` and a line feed.
 use Rattle.frame_text.proofs.Laws.{store-on}
 use Rattle.frame_text.specs.Answers.{lineFeed, badText}
 use Rattle.little.proofs.Laws.{set-written}

@@ -1,3 +1,4 @@
+-- The length is asked first and then the stream, as in the definition: one answer for each of the three ways.
 use borrow.Author.Tests.{eq-eqb, ne-eqb, le-leb, lt-leb}
 use Rattle.listening.specs.Handed.{storeRefusal}
 use Rattle.listening.proofs.refusal_of.Statement.{statement}

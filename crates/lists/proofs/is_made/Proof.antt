@@ -1,3 +1,4 @@
+-- One variant, one answer of `isMade`.
 use Rattle.lists.specs.Lists.{isMade}
 use mathlib.Core.Path.{sym, ap}
 use borrow.Author.Needs.{needs}

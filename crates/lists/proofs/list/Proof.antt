@@ -1,3 +1,5 @@
+-- The three tests are those of `Listed`'s own test, one after the other: where one fails the list is refused, and else `make_all` has made
+-- it.
 use Rattle.lists.specs.Lists.{callsIn}
 use Rattle.lists.proofs.ListLaws.{list-refused, list-made, odd-numbers, other-room, by-calls}
 use borrow.Author.Tests.{not-true, not-false}

@@ -1,3 +1,5 @@
+-- The loop keeps the store and the answers of the calls that are made; a turn adds one call, by `turn-made`. The measure is how many are
+-- left.
 use Rattle.lists.specs.Lists.{requestsTo, numbersOf}
 use mathlib.Core.Path.{_≡_, refl, _∙_}
 use Prim.Native.Nat.{suc, _≤_, _-_}

@@ -1,3 +1,4 @@
+-- A frame that makes a call is made and its answer written, `one-made`; any other leaves both slices, `one-passed`.
 use Rattle.lists.proofs.ListLaws.{one-made, one-passed}
 use borrow.Author.Needs.{needs}
 use Rattle.lists.proofs.make_one.Statement.{statement}

@@ -1,3 +1,4 @@
+-- Four stores, each behind the one before, are one write of the answer's numbers.
 use Rattle.lists.specs.Lists.{answerLength, numbersOf}
 use Rattle.little.proofs.Laws.{set-written, then-set}
 use lib.ListN.{length-set}

@@ -1,3 +1,4 @@
+-- What a slice of bytes holds at an index is below 256, so the cast keeps it.
 use native.Mathlib.Omega.{arith}
 use borrow.Author.Needs.{needs}
 use Rattle.little.proofs.byte.Statement.{statement}

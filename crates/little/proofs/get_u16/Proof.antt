@@ -1,3 +1,4 @@
+-- The sum of the two bytes at their weights is the number in them: `value-two`.
 use Rattle.little.proofs.Laws.{value-two}
 use borrow.Author.Needs.{needs}
 use Rattle.little.proofs.get_u16.Statement.{statement}

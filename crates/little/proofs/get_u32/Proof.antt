@@ -1,3 +1,4 @@
+-- The sum of the four bytes at their weights is the number in them: `value-four`.
 use Rattle.little.proofs.Laws.{value-four}
 use borrow.Author.Needs.{needs}
 use Rattle.little.proofs.get_u32.Statement.{statement}

@@ -1,3 +1,4 @@
+-- Two numbers of four bytes, the second at the weight 2^32, are the one of eight: `value-eight`.
 use Rattle.little.proofs.Laws.{value-eight}
 use borrow.Author.Needs.{needs}
 use Rattle.little.proofs.get_u64.Statement.{statement}

@@ -1,3 +1,4 @@
+-- The figures are those at Open, which `started` gives.
 use Rattle.replay.specs.Standing.{nothingStands}
 use borrow.Author.Needs.{needs}
 use Rattle.replay.proofs.nothing.Statement.{statement}

@@ -1,3 +1,4 @@
+-- By the plan, whose own replay gives what is asked: one that is valid, and neither credit nor level, is continuous.
 use native.Mathlib.Omega.{arith}
 use Rattle.model.proofs.Allowed.{plan-range}
 use borrow.Author.Needs.{needs}

@@ -1,3 +1,4 @@
+-- As in `replay`: by the plan, of which a valid one that is neither credit nor level is continuous.
 use native.Mathlib.Omega.{arith}
 use Rattle.model.proofs.Allowed.{plan-range}
 use borrow.Author.Needs.{needs}

@@ -1,3 +1,4 @@
+-- The law of `Requests`: a part of a line of k digits is a number below 16 to the k.
 use Rattle.frame_text.proofs.Requests.{frames-are-small}
 use Rattle.frame_text.proofs.claims.frames_are_small.Statement.{statement}
 use Rattle.frame_text.proofs.claims.frames_are_small.Tie as tie

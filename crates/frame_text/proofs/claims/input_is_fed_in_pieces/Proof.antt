@@ -1,3 +1,4 @@
+-- The law of `Feeding`, by induction over the bytes that are fed.
 use Rattle.frame_text.proofs.Feeding.{fed-in-pieces}
 use Rattle.frame_text.proofs.claims.input_is_fed_in_pieces.Statement.{statement}
 use Rattle.frame_text.proofs.claims.input_is_fed_in_pieces.Tie as tie

@@ -1,3 +1,4 @@
+-- The law of `Requests`, by induction over the lines: a line that is no frame leaves the store and adds no call.
 use Rattle.frame_text.proofs.Requests.{makes-calls}
 use Rattle.frame_text.proofs.claims.lines_make_calls.Statement.{statement}
 use Rattle.frame_text.proofs.claims.lines_make_calls.Tie as tie

@@ -1,3 +1,4 @@
+-- The law of `Laws`, by induction over the digits: the last one is the remainder by 16.
 use Rattle.frame_text.proofs.Laws.{read-as-written}
 use Rattle.frame_text.proofs.claims.numbers_are_read_as_written.Statement.{statement}
 use Rattle.frame_text.proofs.claims.numbers_are_read_as_written.Tie as tie

@@ -1,3 +1,5 @@
+-- The law of `OnStore`, by length, stream or neither: the two refusals leave the store, and else a write inside one area leaves every
+-- other byte.
 use Rattle.model.proofs.OnStore.{keeps-to-its-area}
 use Rattle.model.proofs.claims.calls_keep_to_their_area.Statement.{statement}
 use Rattle.model.proofs.claims.calls_keep_to_their_area.Tie as tie

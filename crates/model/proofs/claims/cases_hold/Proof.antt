@@ -1,3 +1,4 @@
+-- The law of `CallCases`: the definitions are run.
 use Rattle.model.proofs.CallCases.{cases-hold}
 use Rattle.model.proofs.claims.cases_hold.Statement.{statement}
 use Rattle.model.proofs.claims.cases_hold.Tie as tie

@@ -1,3 +1,5 @@
+-- The law of `Stored`, from the inductions of `Backward` over the entries: an admissible station has a valid plan, and entries that were
+-- accepted.
 use Rattle.model.proofs.Keeping.{plan-of, entries-of}
 use Rattle.model.proofs.Stored.{figures-backward}
 use Rattle.model.proofs.claims.figures_are_backward.Statement.{statement}

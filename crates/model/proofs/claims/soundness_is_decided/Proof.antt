@@ -1,3 +1,5 @@
+-- The law of `Soundness`: the plan and entries that a reading finds, made as calls, leave the bytes that it read; and of the bytes that
+-- calls leave it finds their station.
 use Rattle.model.proofs.Soundness.{decides-soundness}
 use Rattle.model.proofs.claims.soundness_is_decided.Statement.{statement}
 use Rattle.model.proofs.claims.soundness_is_decided.Tie as tie

@@ -1,3 +1,5 @@
+-- The remainder decides, here as in the definition, which of two neighbouring quotients it is; one more than a quotient fits, as a does
+-- with room.
 use Rattle.plans.specs.Credit.{roundedUp}
 use native.Mathlib.Nat.{div-le-self}
 use native.Mathlib.Omega.{arith}

@@ -1,3 +1,4 @@
+-- Twice the remainder by 16, and one more for a withheld lot, is below 32.
 use Rattle.plans.specs.Levels.{shifted}
 use native.Mathlib.Omega.{arith}
 use borrow.Author.Needs.{needs}

@@ -1,3 +1,4 @@
+-- The ones among a window's bits are its withheld lots: computed once for each of the 32 windows, `ones-in-window`.
 use Rattle.plans.proofs.Judging.{ones-in-window}
 use Rattle.plans.proofs.level.withheld_in.Statement.{statement}
 use Rattle.plans.proofs.level.withheld_in.Tie as tie

@@ -1,3 +1,4 @@
+-- The letter is read from the row that `letters` finds, and each of Table 1's letters is a row of Table 2.
 use Rattle.plans.proofs.Rows.{code-letter-below}
 use Rattle.plans.specs.Tables.{codeLetter}
 use mathlib.Core.Path.{refl}

@@ -1,3 +1,4 @@
+-- The definition asks for tightened and then for reduced, as the code does; from 1 to 7 each difference is a column of the nine.
 use borrow.Author.Tests.{eq-eqb, ne-eqb}
 use Rattle.plans.specs.Tables.{columnAt}
 use native.Mathlib.Omega.{arith}

@@ -1,3 +1,5 @@
+-- Table 1's rows follow one another (`row-found`), so each arm's range is one of its rows; the arm below the table's start is its first
+-- row too.
 use Rattle.plans.proofs.Rows.{rowStart, lettersAt, row-found}
 use Rattle.plans.specs.Tables.{table1, lastLetters}
 use native.Mathlib.Omega.{arith}

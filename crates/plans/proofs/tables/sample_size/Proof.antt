@@ -1,3 +1,4 @@
+-- The number is read at the letter and the column that the two functions give; a lot that is smaller is heard whole.
 use Rattle.plans.specs.Tables.{table2, tabled, levelSample}
 use native.Mathlib.Omega.{arith}
 use borrow.Author.Needs.{needs}

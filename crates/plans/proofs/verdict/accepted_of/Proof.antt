@@ -1,3 +1,4 @@
+-- The definition asks for the verdicts in the code's order.
 use borrow.Author.Tests.{eq-eqb, ne-eqb}
 use Rattle.plans.specs.Verdicts.{acceptedOf}
 use borrow.Author.Needs.{needs}

@@ -1,3 +1,4 @@
+-- The definition has the code's one test, whether any is wrong in the sample.
 use borrow.Author.Tests.{eq-eqb, ne-eqb}
 use Rattle.plans.specs.Verdicts.{levelVerdict}
 use Rattle.plans.proofs.verdict.of_level_lot.Statement.{statement}

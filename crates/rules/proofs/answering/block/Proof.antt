@@ -1,3 +1,4 @@
+-- What `block` of `asking` gives stands in the answer as it is: congruence.
 use borrow.Author.Needs.{needs}
 use Rattle.rules.proofs.answering.block.Statement.{statement}
 use Rattle.rules.proofs.answering.block.Tie as tie

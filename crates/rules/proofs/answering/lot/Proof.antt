@@ -1,3 +1,4 @@
+-- The verdict, what it accepts and the figure stand in the answer as the three functions give them: congruence.
 use borrow.Author.Needs.{needs}
 use Rattle.rules.proofs.answering.lot.Statement.{statement}
 use Rattle.rules.proofs.answering.lot.Tie as tie

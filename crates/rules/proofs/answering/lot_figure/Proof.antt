@@ -1,3 +1,4 @@
+-- The definition has the code's one test: credit, or else level.
 use Rattle.model.specs.Stations.{isCredit}
 use Rattle.model.specs.Calls.{lotFigure}
 use borrow.Author.Tests.{eq-eqb, ne-eqb}

@@ -1,3 +1,4 @@
+-- The definition asks for a continuous plan and then for the phase, as the code does.
 use Rattle.plans.specs.Continuous.{isSampling}
 use Rattle.model.specs.Stations.{isContinuous}
 use Rattle.model.specs.Calls.{readFigure}

@@ -1,3 +1,4 @@
+-- A credit plan's sample is clause 10 a)'s, any other's Table 2's; that the plan is valid gives each function its ranges.
 use Rattle.model.proofs.Allowed.{plan-range, level-plan}
 use Rattle.model.specs.Figuring.{sampleAsked}
 use Rattle.model.specs.Stations.{isCredit}

@@ -1,3 +1,4 @@
+-- The definition has the code's one test: a credit lot's verdict, or else a level lot's.
 use Rattle.model.specs.Figuring.{verdictOn}
 use Rattle.model.specs.Stations.{isCredit, hasOption}
 use borrow.Author.Tests.{eq-eqb, ne-eqb}

@@ -1,3 +1,4 @@
+-- A conjunction, asked part by part: each answer says which part failed, or that all before the last hold.
 use borrow.Author.Tests.{not-true, not-false}
 use borrow.Author.Needs.{needs}
 use Rattle.rules.proofs.plan.is_for_blocks.Statement.{statement}

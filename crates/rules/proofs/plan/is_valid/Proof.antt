@@ -1,3 +1,4 @@
+-- The definition asks for the kinds in the code's order, and each kind's ranges are a function's answer.
 use Rattle.model.specs.Stations.{isCredit, isLevel, isContinuous, validPlan}
 use borrow.Author.Tests.{eq-eqb, ne-eqb}
 use borrow.Author.Needs.{needs}

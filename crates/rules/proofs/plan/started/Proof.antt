@@ -1,3 +1,4 @@
+-- The definition has the code's one test: a level stream starts on normal, and any other has no level.
 use Rattle.model.specs.Figuring.{noLevel, started}
 use Rattle.model.specs.Stations.{isLevel}
 use borrow.Author.Tests.{eq-eqb, ne-eqb}

@@ -1,3 +1,4 @@
+-- All but the level is zero, and `screen` gives the continuous ones.
 use borrow.Author.Needs.{needs}
 use Rattle.rules.proofs.plan.with_level.Statement.{statement}
 use Rattle.rules.proofs.plan.with_level.Tie as tie

@@ -1,3 +1,4 @@
+-- A conjunction of two comparisons, asked one after the other.
 use Rattle.model.specs.Stations.{within}
 use borrow.Author.Tests.{le-leb, lt-leb}
 use Rattle.rules.proofs.plan.within.Statement.{statement}

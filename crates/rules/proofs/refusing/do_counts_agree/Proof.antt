@@ -1,3 +1,4 @@
+-- A conjunction, asked part by part: the sample holds what is wrong in it, none was missed, and the range that the verdict sets.
 use Rattle.model.specs.Calls.{countsAgree}
 use borrow.Author.Tests.{le-leb, lt-leb}
 use borrow.Author.Needs.{needs}

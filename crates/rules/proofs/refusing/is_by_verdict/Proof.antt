@@ -1,3 +1,4 @@
+-- No verdict is two at once, so of the definition's two conditions at most one asks for anything.
 use mathlib.Core.Bool.{and-true}
 use borrow.Author.Tests.{ne-eqb}
 use borrow.Author.Needs.{needs}

@@ -1,3 +1,4 @@
+-- The code's one comparison is the definition's.
 use Rattle.model.specs.Calls.{isDiscontinued}
 use mathlib.Core.Path.{refl}
 use Rattle.rules.proofs.refusing.is_discontinued.Statement.{statement}

@@ -1,3 +1,4 @@
+-- An implication: where its premise fails nothing is asked.
 use borrow.Author.Tests.{eq-eqb, ne-eqb}
 use Rattle.rules.proofs.refusing.is_none_missed.Statement.{statement}
 use Rattle.rules.proofs.refusing.is_none_missed.Tie as tie

@@ -1,3 +1,4 @@
+-- The least size hangs on the plan alone, in the code as in the definition.
 use Rattle.model.specs.Stations.{isLevel}
 use Rattle.model.specs.Calls.{sizeInRange}
 use borrow.Author.Tests.{eq-eqb, ne-eqb}

@@ -1,3 +1,4 @@
+-- A changed set-up, a pause and any other why: three answers, by the definition's two tests.
 use Rattle.rules.specs.Refusing.{isStop}
 use borrow.Author.Tests.{eq-eqb, ne-eqb}
 use Rattle.rules.proofs.refusing.is_stop.Statement.{statement}

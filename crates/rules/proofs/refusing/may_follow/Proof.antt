@@ -1,3 +1,4 @@
+-- A conjunction: the label is asked first, and the size where the label is another.
 use Rattle.rules.specs.Refusing.{mayFollow}
 use borrow.Author.Needs.{needs}
 use Rattle.rules.proofs.refusing.may_follow.Statement.{statement}

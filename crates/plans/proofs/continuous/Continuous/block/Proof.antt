@@ -1,3 +1,5 @@
+-- Wrong or right decides the definition too; the new state is `screen`'s or `sample`'s, and 1 ≤ heard ≤ interval keeps every difference
+-- above zero.
 use Rattle.plans.specs.Continuous.{afterBlock}
 use borrow.Author.Needs.{needs}
 use Rattle.plans.proofs.continuous.Continuous.block.Statement.{statement}

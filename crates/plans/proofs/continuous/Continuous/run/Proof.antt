@@ -1,3 +1,4 @@
+-- The definition's two tests, wrong and then count against clearance, are the code's; each way ends in `screen`'s or `sample`'s state.
 use Rattle.plans.specs.Continuous.{afterRun}
 use borrow.Author.Tests.{eq-eqb, ne-eqb}
 use borrow.Author.Needs.{needs}

@@ -1,3 +1,4 @@
+-- The three numbers are the definition's.
 use Rattle.plans.specs.Continuous.{sampling}
 use mathlib.Core.Path.{refl}
 use Rattle.plans.proofs.continuous.Continuous.sample.Statement.{statement}

@@ -1,3 +1,5 @@
+-- Four ways through the code's tests: a changed set-up, sampling with a long stop or a short one, and screening; each decides the
+-- definition's test.
 use Rattle.plans.specs.Stops.{setUpChanged, longStop}
 use Rattle.plans.specs.Continuous.{afterStop, isSampling}
 use borrow.Author.Tests.{eq-eqb, ne-eqb, lt-ltb, le-ltb}

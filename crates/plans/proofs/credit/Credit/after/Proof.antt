@@ -1,3 +1,4 @@
+-- The definition has the code's one test, whether any is wrong; the limits of credit and lot keep the sum in 32 bits.
 use borrow.Author.Tests.{eq-eqb, ne-eqb}
 use Rattle.plans.specs.Credit.{creditAfter}
 use borrow.Author.Needs.{needs}

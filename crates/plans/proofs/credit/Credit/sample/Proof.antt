@@ -1,3 +1,5 @@
+-- The quotient is clause 10 a)'s, rounded up by `rounded_up`; the limits of credit, lot and AOQL keep divisor and dividend in 64 bits, and
+-- a sample is no larger than its lot, so the cast keeps it.
 use mathlib.Core.Path.{_≡_, refl}
 use Rattle.plans.proofs.RoundedUp.{credit-sample-least, credit-sample-at-least, credit-sample-at-most, product-at-most}
 use Rattle.plans.specs.Credit.{sampleDividend, sampleDivisor, creditSample}

@@ -1,3 +1,4 @@
+-- The definition's three tests are the code's, in its order.
 use borrow.Author.Tests.{eq-eqb, ne-eqb}
 use Rattle.plans.specs.Credit.{creditVerdict}
 use Rattle.plans.proofs.credit.Credit.verdict.Statement.{statement}

@@ -1,3 +1,4 @@
+-- On no other level does an accepted lot move anything: `elsewhere-stays`.
 use native.Mathlib.Omega.{arith}
 use Rattle.plans.proofs.Judging.{elsewhere-stays}
 use borrow.Author.Needs.{needs}

@@ -1,3 +1,4 @@
+-- Three answers, a law of `Judging` for each; the stream stays on normal by either of two ways, a short row or a plan without reduced.
 use Prim.Native.Nat.{_+_}
 use mathlib.Core.Bool.{and-false}
 use mathlib.Core.Logic.{⊎-elim}

@@ -1,3 +1,4 @@
+-- Three answers, a law of `Judging` for each: five in a row, ten judged, or neither.
 use mathlib.Core.Path.{_∙_}
 use native.Mathlib.Omega.{arith}
 use Rattle.plans.specs.Levels.{arrived}

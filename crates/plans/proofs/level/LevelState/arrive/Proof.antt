@@ -1,3 +1,4 @@
+-- The state is the definition's, number by number.
 use Rattle.plans.specs.Levels.{arrived}
 use mathlib.Core.Path.{refl}
 use Rattle.plans.proofs.level.LevelState.arrive.Statement.{statement}

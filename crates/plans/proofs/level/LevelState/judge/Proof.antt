@@ -1,3 +1,4 @@
+-- A withheld lot, and an accepted one on normal, on tightened and elsewhere: each is its function's contract, at what became of the lot.
 use borrow.Author.Needs.{needs}
 use Rattle.plans.proofs.level.LevelState.judge.Statement.{statement}
 use Rattle.plans.proofs.level.LevelState.judge.Tie as tie

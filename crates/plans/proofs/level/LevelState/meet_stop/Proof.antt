@@ -1,3 +1,4 @@
+-- Four ways through the code's tests: not on reduced, a changed set-up, a long stop and a short one; each decides the definition's test.
 use Rattle.plans.specs.Stops.{setUpChanged, longStop}
 use Rattle.plans.specs.Levels.{metStop}
 use borrow.Author.Tests.{eq-eqb, ne-eqb, lt-ltb, le-ltb}

@@ -1,3 +1,4 @@
+-- Six answers, a law of `Judging` for each: its facts are the window that `shift_in` gives and what was tested on the way.
 use mathlib.Core.Path.{_∙_}
 use native.Mathlib.Omega.{arith}
 use Rattle.plans.specs.Levels.{arrived}
