@@ -1,13 +1,12 @@
 -- A call keeps a station one that calls could have left; its answer is a refusal, or has refusal number 0. By the station and the call.
 -- Assumes nothing.
-use Prim.Native.Nat.{ℕ, _^_, _<_}
 use mathlib.Core.Path.{_≡_, refl}
 use mathlib.Core.Bool.{Bool, true, false, not, cond, _&&_}
 use mathlib.Core.List.{List, [], _∷_}
 use native.Mathlib.Omega.{arith}
-use lib.Dec.{T, eqb, ltb}
+use lib.Dec.{T, eqb}
 use lib.ListN.{length}
-use borrow.Author.Tests.{eqb-true, eq-eqb, lt-ltb, not-false}
+use borrow.Author.Tests.{eqb-true, eq-eqb, not-false}
 use Rattle.model.specs.declared.Plan.{Plan}
 use Rattle.model.specs.declared.Entry.{Entry}
 use Rattle.model.specs.declared.Entry.the-variants.{Lot, Run, Block, Stop}
@@ -17,7 +16,7 @@ use Rattle.model.specs.declared.Figures.{Figures}
 use Rattle.model.specs.Stations.{Station, unopened, opened, validPlan, arguments, entryArguments, allWords}
 use Rattle.model.specs.Figuring.{figuresOf}
 use Rattle.model.specs.Calls.{firstOf, entryRefusals, refusals, refusalOf, refused, entryAnswer, answerOf, withoutNewest, changed, call, accepts, admissible, admissibleStation}
-use Rattle.model.proofs.Booleans.{both, both-of, holds-of, of-holds}
+use Rattle.model.proofs.Booleans.{both, both-of, holds-of, of-holds, no-words, word-and}
 use Rattle.model.proofs.Allowed.{passed, newest-of, plan-range}
 
 module _ (st : Station) (c : Call) where
@@ -124,10 +123,7 @@ call-admissible st c h w =
 
 -- the arguments of a valid plan are 32-bit numbers
 pub plan-words : (p : Plan) → T (validPlan p) → T (allWords (arguments (Open p)))
-unfolding arguments allWords
+unfolding arguments
 plan-words p v =
     let range = plan-range p v in
-    word (p .kind) _ (omega arith) (word (p .option) _ (omega arith) (word (p .a) _ (omega arith) (word (p .b) _ (omega arith) tt)))
-  where
-    word : (n : ℕ) (rest : Bool) → n < 2 ^ 32 → T rest → T (ltb n (2 ^ 32) && rest)
-    word n rest h t = both (ltb n (2 ^ 32)) rest (of-holds (ltb n (2 ^ 32)) (lt-ltb n (2 ^ 32) h)) t
+    word-and _ _ (omega arith) (word-and _ _ (omega arith) (word-and _ _ (omega arith) (word-and _ _ (omega arith) no-words)))
