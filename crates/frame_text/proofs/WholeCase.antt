@@ -1,91 +1,19 @@
--- Paper 01's whole case holds: the definitions are run on its bytes. Assumes nothing.
-use mathlib.Core.Path.{refl}
-use Rattle.plans.specs.Credit.{roundedUp, sampleDividend, sampleDivisor, creditSample, creditVerdict, creditAfter}
-use Rattle.plans.specs.Verdicts.{acceptedOf, levelVerdict}
-use Rattle.plans.specs.Tables.{table1, lastLetters, lettersIn, codeLetter, table2, columnAt, tabled, levelSample}
-use Rattle.plans.specs.Stops.{setUpChanged, longStop}
-use Rattle.plans.specs.Levels.{
-  levelStart,
-  lengthened,
-  judgedOnTightened,
-  shifted,
-  withheldIn,
-  counted,
-  arrived,
-  afterNormal,
-  afterTightened,
-  afterReduced,
-  levelAfter,
-  moved,
-  judgedLot,
-  metStop,
-}
-use Rattle.plans.specs.Continuous.{screening, sampling, isSampling, afterRun, afterBlock, afterStop}
-use Rattle.little.specs.Little.{bytes, value, part, written}
-use Rattle.model.specs.Stations.{
-  isCredit,
-  isLevel,
-  isContinuous,
-  hasOption,
-  within,
-  validPlan,
-  entryArguments,
-  allWords,
-}
-use Rattle.model.specs.Figuring.{
-  noLevel,
-  started,
-  sampleAsked,
-  verdictOn,
-  acceptedBy,
-  creditStep,
-  levelStep,
-  continuousStep,
-  isLot,
-  labelOf,
-  stepped,
-  figuresOf,
-}
-use Rattle.model.specs.Records.{recordBytes, recordIn, recordOf, entryOf}
-use Rattle.model.specs.Calls.{
-  firstOf,
-  isDiscontinued,
-  isFull,
-  sizeInRange,
-  countsAgree,
-  entryRefusals,
-  accepts,
-  askRefusals,
-  refusals,
-  refusalOf,
-  lotFigure,
-  readFigure,
-  entryAnswer,
-  newestKind,
-  answerOf,
-  withoutNewest,
-  changed,
-  call,
-  admissible,
-  admissibleStation,
-}
-use Rattle.model.specs.Area.{
-  headerOf,
-  recordsOf,
-  areaOf,
-  planIn,
-  countIn,
-  entriesIn,
-  stationIn,
-  sameBytes,
-  reading,
-  onArea,
-}
-use Rattle.model.specs.Store.{fresh, areaAt, onStream, onStore}
+-- Paper 01's whole case holds. Its lines are the calls of `frameCase`, whose answers the model works out; here these are put into text,
+-- and so the output is the texts of the answers to the calls. Assumes nothing.
+use Prim.Native.Nat.{ℕ}
+use mathlib.Core.Path.{ap}
+use mathlib.Core.List.{List, [], _∷_, _++_}
+use Rattle.little.specs.Little.{part}
+use Rattle.model.specs.declared.Answer.{Answer}
+use Rattle.model.specs.Stations.{within}
+use Rattle.model.specs.Store.{answersTo}
+use Rattle.model.specs.Claims.{onAll}
+use Rattle.model.specs.Cases.{callsOf, answersOf, frameCase}
+use Rattle.model.proofs.CallCases.{cases-hold}
 use Rattle.numbering.specs.Numbers.{uses, unusedZero, numbered}
 use Rattle.frame_text.specs.Digits.{digit, allDigits, digitValue, digitOf, goneOn, hexValue, digitsOf}
 use Rattle.frame_text.specs.Frames.{callNumber, streamIn, argument, argumentsTo, frameOf}
-use Rattle.frame_text.specs.Answers.{answerText, badText}
+use Rattle.frame_text.specs.Answers.{answerText}
 use Rattle.frame_text.specs.Program.{before, lines, onFrame, onLine, outputFrom, output}
 use Rattle.frame_text.specs.Case.{
   openLine,
@@ -101,20 +29,15 @@ use Rattle.frame_text.specs.Case.{
   WholeCase,
 }
 
+texts : List Answer → List ℕ
+texts [] = []
+texts (a ∷ answers) = answerText a ++ texts answers
+
 pub whole-case : WholeCase
 unfolding
-    roundedUp sampleDividend sampleDivisor creditSample creditVerdict creditAfter acceptedOf levelVerdict
-    table1 lastLetters lettersIn codeLetter table2 columnAt tabled levelSample setUpChanged longStop
-    levelStart lengthened judgedOnTightened shifted withheldIn counted arrived afterNormal afterTightened afterReduced
-    levelAfter moved judgedLot metStop screening sampling isSampling afterRun afterBlock afterStop bytes value part written
-    isCredit isLevel isContinuous hasOption within validPlan entryArguments allWords
-    noLevel started sampleAsked verdictOn acceptedBy creditStep levelStep continuousStep isLot labelOf stepped figuresOf
-    firstOf isDiscontinued isFull sizeInRange countsAgree entryRefusals accepts askRefusals refusals refusalOf lotFigure readFigure
-    entryAnswer newestKind answerOf withoutNewest changed call admissible admissibleStation
-    recordBytes recordIn recordOf entryOf headerOf recordsOf areaOf planIn countIn entriesIn stationIn sameBytes
-    reading onArea fresh areaAt onStream onStore
+    texts answersTo onAll callsOf answersOf frameCase part within
     digit allDigits digitValue digitOf goneOn hexValue digitsOf callNumber streamIn argument argumentsTo
     uses unusedZero numbered frameOf
-    answerText badText before lines onFrame onLine outputFrom output
+    answerText before lines onFrame onLine outputFrom output
     openLine lotLine askLine backLine openAnswer lotAnswer askAnswer backAnswer caseInput caseOutput
-whole-case = refl
+whole-case = ap texts (cases-hold .0)

@@ -1,3 +1,4 @@
+-- The law of `WholeCase`: the texts of the answers that the calls of the case give.
 use Rattle.frame_text.proofs.WholeCase.{whole-case}
 use Rattle.frame_text.proofs.claims.whole_case_holds.Statement.{statement}
 use Rattle.frame_text.proofs.claims.whole_case_holds.Tie as tie
