@@ -1,8 +1,27 @@
--- Numbers side by side in the fields of one word: masked and joined all at once. Assumes nothing.
+-- Numbers side by side in the fields of one word: masked and joined all at once. By induction over the fields; what one joining asks holds
+-- of every base, its square and that square's square. Assumes nothing.
 use mathlib.Core.Path.{_≡_, refl, sym, ap, _∙_}
 use mathlib.Core.List.{List, [], _∷_, _++_}
 use Prim.Native.Nat.{ℕ, zero, suc, _+_, _-_, _*_, _/_, _%_, _^_, _<_}
-use native.Mathlib.Nat.{mod-lt, lt-of-lt-of-le, le-add-left}
+use native.Mathlib.Nat.{
+  add-zero,
+  one-mul,
+  add-mul,
+  mul-right-comm,
+  mul-pos,
+  mul-le-mul-right,
+  le-mul-of-pos-right,
+  le-add-left,
+  lt-of-lt-of-le,
+  mod-lt,
+  mod-eq-of-lt,
+  zero-mod,
+  mul-add-mod-self-right,
+  div-eq-of-lt,
+  div-add-mod',
+  mul-add-div-right,
+  div-div-eq-div-mul,
+}
 use native.Mathlib.Omega.{arith}
 use lib.Bits.{bitAnd, and-block, and-mask, and-zero-r}
 use lib.ListN.{length, getD}
@@ -92,46 +111,55 @@ module _ {P B Q : ℕ} (bases : Bases P B Q) where
   join (a ∷ b ∷ xs) h =
       rw (bases .pair (fields B xs) a b (h .0) (h .1 .0), bases .pairs (fields B xs) a b (h .0) (h .1 .0) (first-below xs (h .1 .1)), join xs (h .1 .1))
 
--- these hold at the three sizes that a word is joined at; omega asks for the numbers
+-- these hold of every base with its square and that square's square
+module _ (P : ℕ) (positive : 0 < P) where
+  square-positive : 0 < P * P
+  square-positive = mul-pos positive positive
 
-pub by4 : Bases 16 256 65536
-by4 =
-    record {
-      joint = λ a b ha hb. omega arith;
-      first = λ v c hc. omega arith;
-      none = omega arith;
-      pair = λ v a b ha hb. rw (next v b a ha) (omega arith);
-      pairs = λ v a b ha hb hv. rw (next v b a ha) (omega arith);
-    }
-  where
-    next : (v b a : ℕ) → a < 16 → ((v * 256 + b) * 256 + a) / 256 ≡ v * 256 + b
-    next v b a ha = omega arith
+  below-square : (a b : ℕ) → a < P → b < P → a * P + b < P * P
+  below-square a b ha hb = omega (arith, mul-le-mul-right {m = a + 1} {n = P} P (omega arith), add-mul a 1 P, one-mul P)
 
-pub by8 : Bases 256 65536 4294967296
-by8 =
-    record {
-      joint = λ a b ha hb. omega arith;
-      first = λ v c hc. omega arith;
-      none = omega arith;
-      pair = λ v a b ha hb. rw (next v b a ha) (omega arith);
-      pairs = λ v a b ha hb hv. rw (next v b a ha) (omega arith);
-    }
-  where
-    next : (v b a : ℕ) → a < 256 → ((v * 65536 + b) * 65536 + a) / 65536 ≡ v * 65536 + b
-    next v b a ha = omega arith
+  item-below : (a : ℕ) → a < P → a < P * P
+  item-below a ha = lt-of-lt-of-le ha (le-mul-of-pos-right P positive)
 
-pub by16 : Bases 65536 4294967296 18446744073709551616
-by16 =
-    record {
-      joint = λ a b ha hb. omega arith;
-      first = λ v c hc. omega arith;
-      none = omega arith;
-      pair = λ v a b ha hb. rw (next v b a ha) (omega arith);
-      pairs = λ v a b ha hb hv. rw (next v b a ha) (omega arith);
-    }
-  where
-    next : (v b a : ℕ) → a < 65536 → ((v * 4294967296 + b) * 4294967296 + a) / 4294967296 ≡ v * 4294967296 + b
-    next v b a ha = omega arith
+  -- the first item's right neighbour comes to stand behind it, and all other neighbours in the fields above
+  two-joined : (v a b : ℕ) → a < P → overlapped P (P * P) ((v * (P * P) + b) * (P * P) + a) ≡ ((v * (P * P) + b) * P + v) * (P * P) + (a * P + b)
+  two-joined v a b ha =
+      let above : ((v * (P * P) + b) * (P * P) + a) / (P * P) ≡ v * (P * P) + b =
+      mul-add-div-right square-positive (v * (P * P) + b) a ∙ rw (div-eq-of-lt (item-below a ha)) (add-zero _) in
+      rw above
+      (omega (
+        arith,
+        add-mul ((v * (P * P) + b) * (P * P)) a P,
+        mul-right-comm (v * (P * P) + b) (P * P) P,
+        add-mul ((v * (P * P) + b) * P) v (P * P),
+      ))
+
+  -- two fields further up the rest is joined in the same way
+  rest-joined : (v b : ℕ) → b < P → v % (P * P) < P → ((v * (P * P) + b) * P + v) / (P * P) ≡ overlapped P (P * P) v
+  rest-joined v b hb hv =
+      let above : (v * (P * P) + b) * P + v ≡ (v * P + v / (P * P)) * (P * P) + (b * P + v % (P * P)) =
+      omega (
+        arith,
+        add-mul (v * (P * P)) b P,
+        mul-right-comm v (P * P) P,
+        add-mul (v * P) (v / (P * P)) (P * P),
+        div-add-mod' v (P * P),
+      ) in
+      rw above (mul-add-div-right square-positive _ _ ∙ rw (div-eq-of-lt (below-square b _ hb hv)) (add-zero _))
+
+  pub bases : Bases P (P * P) (P * P * (P * P))
+  bases =
+      record {
+        joint = below-square;
+        first = λ v c hc. rw (mul-add-mod-self-right v (P * P) c, mod-eq-of-lt (item-below c hc)) hc;
+        none = rw (zero-mod (P * P)) positive;
+        pair = λ v a b ha hb. rw (two-joined v a b ha) (mul-add-mod-self-right _ (P * P) _ ∙ mod-eq-of-lt (below-square a b ha hb));
+        pairs = λ v a b ha hb hv.
+            rw (two-joined v a b ha, ← div-div-eq-div-mul _ (P * P) (P * P))
+            (rw (mul-add-div-right square-positive ((v * (P * P) + b) * P + v) (a * P + b), div-eq-of-lt (below-square a b ha hb), add-zero)
+            (rest-joined v b hb hv));
+      }
 
 -- neighbours are joined by a mask that keeps each second field
 pub join-masked : {P mask : ℕ} (k m : ℕ) → Bases P (2 ^ k) (2 ^ (k + k)) → (xs : List ℕ) → Below P xs → length (joined P xs) ≡ m → mask ≡ lows k k m

@@ -6,7 +6,7 @@ use Prim.Native.Nat.{ℕ, _+_, _*_, _/_, _%_, _≤_, _<_}
 use native.Mathlib.Omega.{arith}
 use borrow.Author.Tests.{le-leb, lt-leb}
 use lib.Bits.{bitAnd, and-le-r, and-mask}
-use lib.Dec.{T, lit≤}
+use lib.Dec.{T, lit<, lit≤}
 use lib.ListN.{length, drop, length-drop}
 use lib.Seq.{drop-append-le, take-append-le}
 use Rattle.little.specs.Little.{value, part}
@@ -14,7 +14,7 @@ use Rattle.little.proofs.Laws.{length-part, part-and-rest}
 use Rattle.model.proofs.Booleans.{both-of}
 use Rattle.frame_text.specs.Digits.{digit, allDigits, digitValue, goneOn, hexValue}
 use Rattle.frame_text.proofs.Laws.{digit-range, digit-below, digits-part}
-use Rattle.frame_text.proofs.Fields.{fields, lows, picked, mask-law, Below, joined, overlapped, joined-below, by4, by8, by16, join-masked}
+use Rattle.frame_text.proofs.Fields.{fields, lows, picked, mask-law, Below, joined, overlapped, joined-below, bases, join-masked}
 
 -- ---- a digit's value
 
@@ -121,15 +121,15 @@ word-in bs long h =
     let twos : List ℕ = joined 16 ones in
     let fours : List ℕ = joined 256 twos in
     let ones-below : Below 16 ones = values-below bs h in
-    let twos-below : Below 256 twos = joined-below by4 ones ones-below in
-    let fours-below : Below 65536 fours = joined-below by8 twos twos-below in
+    let twos-below : Below 256 twos = joined-below (bases 16 (lit< tt)) ones ones-below in
+    let fours-below : Below 65536 fours = joined-below (bases 256 (lit< tt)) twos twos-below in
     let last : length (joined 65536 fours) ≡ 1 = ap length (all .0) in
     let low : bitAnd (overlapped 65536 4294967296 (foursIn (value bs))) 0xffff_ffff ≡ hexValue bs =
     rw (
       ones-in bs long h,
-      join-masked 8 4 by4 ones ones-below (all .2) refl,
-      join-masked 16 2 by8 twos twos-below (all .1) refl,
-      join-masked 32 1 by16 fours fours-below last refl,
+      join-masked 8 4 (bases 16 (lit< tt)) ones ones-below (all .2) refl,
+      join-masked 16 2 (bases 256 (lit< tt)) twos twos-below (all .1) refl,
+      join-masked 32 1 (bases 65536 (lit< tt)) fours fours-below last refl,
       all .0,
     )
     (omega arith) in
