@@ -28,7 +28,7 @@ use Rattle.replaying.specs.declared.Entered.{Entered}
 use Rattle.replaying.specs.Replaying.{oneNumber, headOf, flagged, wrongRun, wrongBlock, whyOf, entered, tried, soundAt, unsoundAt, Reached, Ready}
 use Rattle.replaying.proofs.Heads.{why-more}
 use Rattle.replaying.proofs.Reached.{reached-within, turns}
-use Rattle.replaying.proofs.Tried.{enteredWith, entered-read, accepted-zero, stop-tried, run-record, block-record, no-stop, stop-record}
+use Rattle.replaying.proofs.Tried.{accepted-zero, stop-tried, run-record, block-record, no-stop, stop-record}
 use Rattle.replay_continuous.specs.declared.Place.{Place}
 use Rattle.replay_continuous.specs.declared.Step.{Step}
 use Rattle.replay_continuous.specs.declared.Step.the-variants.{Stands, Fails}
@@ -58,26 +58,9 @@ Gives p s x e = Steps p s x (tried p (figuresHere p s) e)
 abbrev pub Enters : Plan → Place → Step → Record → Type 0
 Enters p s x r = Steps p s x (entered p (figuresHere p s) 0 r)
 
--- ---- a step, told in figures
-module _ (clearance : ℕ) (f : Figures) (x : Step) (y : Entered) (gives : enteredAs clearance f x ≡ y) where
-  pub fails-as : x ≡ Fails → enteredWith false f ≡ y
-  unfolding enteredAs unsoundAt
-  fails-as fails = rw fails at gives
-
-  pub stands-as : (g : Figures) (s : Place) → g ≡ figuresIn clearance s → x ≡ Stands s → enteredWith true g ≡ y
-  unfolding enteredAs soundAt
-  stands-as g s same stands = rw same (rw stands at gives)
-
-pub fails-in : (clearance : ℕ) (f : Figures) (x : Step) → x ≡ Fails → enteredWith false f ≡ enteredAs clearance f x
-fails-in clearance f x = fails-as clearance f x (enteredAs clearance f x) refl
-
-module _ (clearance : ℕ) (x : Step) (s : Place) (stands : x ≡ Stands s) where
-  pub stands-in : (f g : Figures) → g ≡ figuresIn clearance s → enteredWith true g ≡ enteredAs clearance f x
-  stands-in f g same = stands-as clearance f x _ refl g s same stands
-
-  pub stands-within : Within clearance x → s .left ≤ clearance
-  unfolding Within
-  stands-within within = rw stands at within
+pub stands-within : (clearance : ℕ) (x : Step) (s : Place) → x ≡ Stands s → Within clearance x → s .left ≤ clearance
+unfolding Within
+stands-within clearance x s stands within = rw stands at within
 
 -- ---- figures, and the place that they tell of
 module _ (p : Plan) (f : Figures) (kind : p .kind ≡ 3) (s : Place) (from : s ≡ placeFrom (p .a) f) where
@@ -301,8 +284,6 @@ module _ (p : Plan) (s : Place) (r : Record) (x : Step) (on : OnContinuous p s) 
 
     pub screening-unfit : (y : Step) → y ≡ Fails → Gives p s y (Run (r .a) 1) → Enters p s x r
     screening-unfit y fails tried-so = screening (λ _. not-accepted p s _ y fails tried-so)
-
-pub ruleset tells = (fails-as, stands-as, fails-in, stands-in, stands-within, entered-read)
 
 pub ruleset calls = (call-counts, call-on, run-called, block-called, stop-called)
 

@@ -1,16 +1,13 @@
 -- A continuous stream (paper 01, "Continuous") as its replay carries it: what is left to be screened, the tail, and how many are
 -- accepted. Assumes nothing.
-use Prim.Native.Nat.{ℕ, _+_, _-_, _≤_}
+use Prim.Native.Nat.{ℕ, _-_, _≤_}
 use mathlib.Core.Path.{_≡_}
 use mathlib.Core.Bool.{Bool, cond}
-use mathlib.Core.List.{List}
 use lib.Dec.{eqb, ltb}
-use lib.ListN.{length}
 use Rattle.plans.specs.declared.continuous.Continuous.{Continuous}
 use Rattle.plans.specs.Continuous.{screening, sampling, isSampling}
 use Rattle.model.specs.declared.Plan.{Plan}
 use Rattle.model.specs.declared.Figures.{Figures}
-use Rattle.model.specs.Sizes.{recordLength}
 use Rattle.model.specs.Stations.{within}
 use Rattle.model.specs.Figuring.{noLevel}
 use Rattle.replaying.specs.declared.Entered.{Entered}
@@ -89,8 +86,3 @@ pub record Steps (p : Plan) (s : Place) (x : Step) (gives : Entered) : Type 0 wh
 pub record Tells (p : Plan) (s : Place) (r : Record) (o : Outcome) : Type 0 where
   pub same : toldAs (p .a) o ≡ entered p (figuresIn (p .a) s) 0 r
   pub within : o .place .left ≤ p .a
-
--- a record whole in the area, and a place before it
-pub record ReadAt (p : Plan) (area : List ℕ) (s : Place) (at : ℕ) : Type 0 where
-  pub inArea : at + recordLength ≤ length area
-  pub on : OnContinuous p s

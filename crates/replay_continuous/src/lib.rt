@@ -12,7 +12,7 @@ ghost use Rattle.little.specs.Little.{part};
 ghost use Rattle.model.specs.Sizes.{recordLength};
 ghost use Rattle.model.specs.declared.Entry.the-variants.{Run, Block, Stop};
 ghost use Rattle.model.specs.Records.{recordIn};
-ghost use Rattle.replaying.specs.Replaying.{Ready, replayed, Reached, entered, tried};
+ghost use Rattle.replaying.specs.Replaying.{Ready, ReadAt, replayed, Reached, entered, tried};
 ghost use Rattle.replay_continuous.specs.declared.Step.the-variants.{Stands};
 ghost use Rattle.replay_continuous.specs.Places.{
   leftOf,
@@ -27,7 +27,6 @@ ghost use Rattle.replay_continuous.specs.Places.{
   Within,
   Steps,
   Tells,
-  ReadAt,
 };
 use model::Figures;
 use model::Plan;
@@ -145,7 +144,7 @@ fn entered_as(clearance: u32, figures: Figures, step: Step) -> Entered
 
 // The place is lent to `bring` here alone, so that no other function has a reference to it.
 fn brought(area: &[u8], plan: Plan, place: Place, at: usize) -> Outcome
-    requires { ⌜ ReadAt plan (now area) place at ⌝ }
+    requires { ⌜ ReadAt (now area) at (OnContinuous plan place) ⌝ }
     ensures { λ r. ⌜ Tells plan place (recordIn (part at recordLength (now (area .entry)))) r ⌝ }
 {
     let mut here = place;
@@ -158,7 +157,7 @@ fn brought(area: &[u8], plan: Plan, place: Place, at: usize) -> Outcome
 
 // Brings the place up to date with the record at an offset; answers whether it could stand.
 fn bring(place: &mut Place, area: &[u8], plan: Plan, at: usize) -> bool
-    requires { ⌜ ReadAt plan (now area) (now place) at ⌝ }
+    requires { ⌜ ReadAt (now area) at (OnContinuous plan (now place)) ⌝ }
     ensures { λ r. ⌜ Tells plan (now (place .entry)) (recordIn (part at recordLength (now (area .entry)))) (record { stands = r; place = now (place .exit) }) ⌝ }
 {
     let next = next(area, plan, *place, at);
@@ -168,7 +167,7 @@ fn bring(place: &mut Place, area: &[u8], plan: Plan, at: usize) -> bool
 
 // The same by value.
 fn next(area: &[u8], plan: Plan, place: Place, at: usize) -> Outcome
-    requires { ⌜ ReadAt plan (now area) place at ⌝ }
+    requires { ⌜ ReadAt (now area) at (OnContinuous plan place) ⌝ }
     ensures { λ r. ⌜ Tells plan place (recordIn (part at recordLength (now (area .entry)))) r ⌝ }
 {
     let Step::Stands(after) = take(plan, place, records::get_record_at(area, at)) else {

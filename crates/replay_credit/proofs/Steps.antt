@@ -23,28 +23,15 @@ use Rattle.model.proofs.Booleans.{both-true}
 use Rattle.rules.specs.Refusing.{mayFollow, isStop}
 use Rattle.rules.proofs.Counts.{all-at-most}
 use Rattle.replaying.specs.declared.Entered.{Entered}
-use Rattle.replaying.specs.Replaying.{Reached, Ready, enteredIf, tried, askedLot, soundAt, unsoundAt}
+use Rattle.replaying.specs.Replaying.{Reached, Ready, tried, askedLot, soundAt, unsoundAt}
 use Rattle.replaying.specs.LotStreams.{lotFigures}
 use Rattle.replaying.proofs.LotStreams.{numbers-kept, lot-numbers, stop-numbers, follower-size, lot-records}
 use Rattle.replaying.proofs.Reached.{Left, no-level, reached-left, reached-within, ready-left, turns}
-use Rattle.replaying.proofs.Tried.{enteredWith, entered-read, lot-tried, stop-tried}
+use Rattle.replaying.proofs.Tried.{by-test, lot-tried, stop-tried}
 use Rattle.replay_credit.specs.declared.Carried.{Carried}
 use Rattle.replay_credit.specs.declared.Step.{Step}
 use Rattle.replay_credit.specs.declared.Step.the-variants.{Stands, Fails}
 use Rattle.replay_credit.specs.Carrying.{figuresIn, carriedFrom, OnCredit, enteredAs}
-
--- ---- a step, told in figures
-module _ (f : Figures) (x : Step) (y : Entered) (gives : enteredAs f x ≡ y) where
-  pub fails-as : x ≡ Fails → enteredWith false f ≡ y
-  unfolding enteredAs unsoundAt
-  fails-as fails = rw fails at gives
-
-  pub stands-as : (g : Figures) (s : Carried) → g ≡ figuresIn s → x ≡ Stands s → enteredWith true g ≡ y
-  unfolding enteredAs soundAt
-  stands-as g s same stands = rw same (rw stands at gives)
-
-pub stands-in : (f : Figures) (x : Step) (g : Figures) (s : Carried) → g ≡ figuresIn s → x ≡ Stands s → enteredWith true g ≡ enteredAs f x
-stands-in f x = stands-as f x (enteredAs f x) refl
 
 -- a step that is what a lot, and what a stop, gives on the numbers
 abbrev pub LotGives : Plan → Carried → ℕ → ℕ → ℕ → ℕ → Step → Type 0
@@ -78,12 +65,6 @@ module _ (p : Plan) (f : Figures) (kind : p .kind ≡ 1) (s : Carried) (same : s
 
 -- ---- steps
 
--- by a test
-by-test : (b : Bool) (f : Figures) (s : Carried) → enteredAs f (cond b (Stands s) Fails) ≡ enteredIf b (figuresIn s) f
-unfolding enteredAs soundAt unsoundAt
-by-test true f s = refl
-by-test false f s = refl
-
 module _ (p : Plan) (s : Carried) (on : OnCredit p s) where
   pub lots : isContinuous p ≡ false
   unfolding isContinuous
@@ -95,9 +76,9 @@ module _ (p : Plan) (s : Carried) (on : OnCredit p s) where
 
   -- "On credit streams it is entered without effect"
   stop-given : (why days : ℕ) (b : Bool) → isStop why days ≡ b → StopGives p s why days (cond b (Stands s) Fails)
-  unfolding figuresIn levelStep isLevel
+  unfolding enteredAs soundAt unsoundAt figuresIn levelStep isLevel
   stop-given why days b test =
-      by-test b (figuresIn s) s
+      by-test enteredAs (figuresIn s) (Stands s) Fails b (figuresIn s) refl refl
       ∙ sym
       (stop-tried p (figuresIn s) running why days
       ∙ rw (stop-numbers (s .credit .0) noLevel (s .accepted) (s .above) p why days lots, on .kind, test))
@@ -144,8 +125,9 @@ module _ (p : Plan) (s : Carried) (on : OnCredit p s) where
     stepped-so = lot-numbers (s .credit .0) noLevel (s .accepted) (s .above) p label N _ d D ∙ rw (judged-so, on .kind)
 
     lot-given : (b : Bool) → mayFollow (leastLot false) (s .above) label N && countsAgree v N n d D ≡ b → LotGives p s label N d D (cond b (Stands after) Fails)
+    unfolding enteredAs soundAt unsoundAt
     lot-given b test =
-        by-test b (figuresIn s) after
+        by-test enteredAs (figuresIn s) (Stands after) Fails b (figuresIn after) refl refl
         ∙ sym (lot-tried p (figuresIn s) running lots label N d D ∙ rw (judged-so, asked-so, following, stepped-so, test))
 
     -- no more is wrong than the lot holds
@@ -194,8 +176,6 @@ module _ (above label N : ℕ) (may : Bool) (tested : may ≡ mayFollow 1 above 
 
   pub size-most : N ≤ largestLot
   size-most = follower-size 1 above label N (sym tested ∙ not-false may fits) .1
-
-pub ruleset tells = (fails-as, stands-as, stands-in, entered-read)
 
 pub ruleset calls = (call-on, lot-called, stop-called)
 

@@ -1,11 +1,7 @@
 -- The figures of a credit stream in three numbers: paper 01, "Credit lots". Assumes nothing.
-use Prim.Native.Nat.{ℕ, _+_, _≤_}
 use mathlib.Core.Path.{_≡_}
-use mathlib.Core.List.{List}
-use lib.ListN.{length}
 use Rattle.model.specs.declared.Plan.{Plan}
 use Rattle.model.specs.declared.Figures.{Figures}
-use Rattle.model.specs.Sizes.{recordLength}
 use Rattle.model.specs.Figuring.{noLevel}
 use Rattle.replaying.specs.declared.Entered.{Entered}
 use Rattle.replaying.specs.Replaying.{Reached, soundAt, unsoundAt}
@@ -36,8 +32,3 @@ enteredAs f Fails = unsoundAt f
 -- an outcome in its figures
 unfoldable pub toldAs : Outcome → Entered
 toldAs o = record { sound = o .stands; figures = figuresIn (o .carried) }
-
--- a record whole in the area, and numbers that leave room for it
-pub record ReadAt (p : Plan) (area : List ℕ) (s : Carried) (at : ℕ) : Type 0 where
-  pub inArea : at + recordLength ≤ length area
-  pub on : OnCredit p s

@@ -22,35 +22,22 @@ use Rattle.model.specs.declared.Entry.{Entry}
 use Rattle.model.specs.declared.Entry.the-variants.{Lot, Run, Block, Stop}
 use Rattle.model.specs.Stations.{isCredit, isLevel, isContinuous, hasOption}
 use Rattle.model.specs.Figuring.{sampleAsked, verdictOn, creditStep, levelStep}
-use Rattle.model.specs.Calls.{firstOf, entryRefusals, isDiscontinued, sameLabel, sizeInRange, countsAgree, accepts}
+use Rattle.model.specs.Calls.{firstOf, entryRefusals, isDiscontinued, sizeInRange, countsAgree, accepts}
 use Rattle.model.proofs.Allowed.{level-plan}
 use Rattle.model.proofs.Booleans.{both-true}
 use Rattle.rules.specs.Refusing.{mayFollow, isStop}
 use Rattle.model.specs.declared.Record.{Record}
 use Rattle.replaying.specs.declared.Entered.{Entered}
 use Rattle.model.specs.Records.{entryOf}
-use Rattle.replaying.specs.Replaying.{wellFormed, stands, enteredIf, entered, tried, askedLot, Reached, soundAt, unsoundAt, Ready}
+use Rattle.replaying.specs.Replaying.{wellFormed, stands, entered, tried, askedLot, Reached, soundAt, unsoundAt, Ready}
 use Rattle.replaying.specs.LotStreams.{lotFigures}
 use Rattle.replaying.proofs.LotStreams.{numbers-kept, lot-numbers, stop-numbers, lot-records}
 use Rattle.replaying.proofs.Reached.{Left, no-credit, reached-left, reached-within, ready-left, turns}
-use Rattle.replaying.proofs.Tried.{enteredWith, entered-fails, entered-read, lot-tried, stop-tried}
+use Rattle.replaying.proofs.Tried.{enteredWith, by-test, lot-tried, stop-tried}
 use Rattle.replay_level.specs.declared.Carried.{Carried}
 use Rattle.replay_level.specs.declared.Step.{Step}
 use Rattle.replay_level.specs.declared.Step.the-variants.{Stands, Fails}
 use Rattle.replay_level.specs.Carrying.{figuresIn, carriedFrom, OnLevel, Running, fitsSample, enteredAs}
-
--- ---- a step, told in figures
-module _ (f : Figures) (x : Step) (y : Entered) (gives : enteredAs f x ≡ y) where
-  pub fails-as : x ≡ Fails → enteredWith false f ≡ y
-  unfolding enteredAs unsoundAt
-  fails-as fails = rw fails at gives
-
-  pub stands-as : (g : Figures) (s : Carried) → g ≡ figuresIn s → x ≡ Stands s → enteredWith true g ≡ y
-  unfolding enteredAs soundAt
-  stands-as g s same stands = rw same (rw stands at gives)
-
-pub stands-in : (f : Figures) (x : Step) (g : Figures) (s : Carried) → g ≡ figuresIn s → x ≡ Stands s → enteredWith true g ≡ enteredAs f x
-stands-in f x = stands-as f x (enteredAs f x) refl
 
 -- ---- a discontinued stream takes nothing
 module _ (p : Plan) (f : Figures) (kind : p .kind ≡ 2) (ended : isDiscontinued f ≡ true) where
@@ -120,29 +107,23 @@ counts-agree N n d D = go (eqb d 0) refl
     go true e = simp (eqb-true d 0 e, leb·zero, and-true)
     go false e = simp (e, and-true, and-comm (leb d n) (eqb D d))
 
--- a step by a test
-by-test : (b : Bool) (f : Figures) (s : Carried) → enteredAs f (cond b (Stands s) Fails) ≡ enteredIf b (figuresIn s) f
-unfolding enteredAs soundAt unsoundAt
-by-test true f s = refl
-by-test false f s = refl
-
 module _ (p : Plan) (s : Carried) (run : Running p s) where
   module _ (label N d D : ℕ) where
     lot-told : (b : Bool) → mayFollow 2 (s .above) label N && fitsSample (p .a) (s .state .level) N d D ≡ b
         → LotGives p s label N d D (cond b (Stands (record { state = judgedLot (hasOption p) (ltb 0 d) (s .state); accepted = s .accepted + acceptedOf (levelVerdict d) N D; above = label + 1 })) Fails)
-    unfolding askedLot sizeInRange isLevel isCredit sampleAsked verdictOn creditStep levelStep figuresIn lotFigures mayFollow fitsSample
+    unfolding enteredAs soundAt unsoundAt askedLot sizeInRange isLevel isCredit sampleAsked verdictOn creditStep levelStep figuresIn lotFigures mayFollow fitsSample
     lot-told b test =
         let agree = counts-agree N (levelSample (p .a) (s .state .level) N) d D in
-        by-test b _ _
+        by-test enteredAs _ _ Fails b _ refl refl
         ∙ sym
         (lot-tried p (figuresIn s) (run .goesOn) (lots p s (run .on)) label N d D
         ∙ rw (lot-numbers 0 (s .state) (s .accepted) (s .above) p label N _ d D, run .on .kind, agree, test))
 
   stop-told : (why days : ℕ) (b : Bool) → isStop why days ≡ b
       → StopGives p s why days (cond b (Stands (record { state = metStop why days (s .state); accepted = s .accepted; above = s .above })) Fails)
-  unfolding levelStep isLevel figuresIn
+  unfolding enteredAs soundAt unsoundAt levelStep isLevel figuresIn
   stop-told why days b test =
-      by-test b _ _
+      by-test enteredAs _ _ Fails b _ refl refl
       ∙ sym
       (stop-tried p (figuresIn s) (run .goesOn) why days
       ∙ rw (stop-numbers 0 (s .state) (s .accepted) (s .above) p why days (lots p s (run .on)), run .on .kind, test))
@@ -204,8 +185,6 @@ module _ (p : Plan) (s : Carried) (run : Running p s) where
   pub sum-fits : (n : ℕ) → n < 2 ^ 32 → s .accepted + n < 2 ^ 64
   unfolding figuresIn lotFigures
   sum-fits n small = omega (arith, reached-within p (figuresIn s) (run .on .reached) .acceptedIn)
-
-pub ruleset tells = (fails-as, stands-as, stands-in, entered-fails, entered-read)
 
 pub ruleset calls = (call-ended, call-running, lot-called, stop-called)
 

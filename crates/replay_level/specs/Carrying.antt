@@ -1,14 +1,11 @@
 -- The figures of a level stream in six numbers: paper 01, "Level lots". Assumes nothing.
-use Prim.Native.Nat.{ℕ, _+_, _≤_}
+use Prim.Native.Nat.{ℕ}
 use mathlib.Core.Path.{_≡_}
 use mathlib.Core.Bool.{Bool, false, _&&_}
-use mathlib.Core.List.{List}
 use lib.Dec.{eqb, leb}
-use lib.ListN.{length}
 use Rattle.plans.specs.Tables.{levelSample}
 use Rattle.model.specs.declared.Plan.{Plan}
 use Rattle.model.specs.declared.Figures.{Figures}
-use Rattle.model.specs.Sizes.{recordLength}
 use Rattle.model.specs.Calls.{isDiscontinued}
 use Rattle.replaying.specs.declared.Entered.{Entered}
 use Rattle.replaying.specs.Replaying.{Reached, soundAt, unsoundAt}
@@ -47,8 +44,3 @@ enteredAs f Fails = unsoundAt f
 -- an outcome in its figures
 unfoldable pub toldAs : Outcome → Entered
 toldAs o = record { sound = o .stands; figures = figuresIn (o .carried) }
-
--- a record whole in the area, and numbers that leave room for it
-pub record ReadAt (p : Plan) (area : List ℕ) (s : Carried) (at : ℕ) : Type 0 where
-  pub inArea : at + recordLength ≤ length area
-  pub on : OnLevel p s

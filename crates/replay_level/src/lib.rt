@@ -9,8 +9,8 @@ ghost use Rattle.plans.specs.Limits.{verificationLevels};
 ghost use Rattle.model.specs.Sizes.{recordLength};
 ghost use Rattle.model.specs.declared.Entry.the-variants.{Stop};
 ghost use Rattle.model.specs.Records.{recordIn};
-ghost use Rattle.replaying.specs.Replaying.{Ready, replayed, Reached, entered, tried, askedLot};
-ghost use Rattle.replay_level.specs.Carrying.{figuresIn, carriedFrom, OnLevel, Running, fitsSample, enteredAs, toldAs, ReadAt};
+ghost use Rattle.replaying.specs.Replaying.{Ready, ReadAt, replayed, Reached, entered, tried, askedLot};
+ghost use Rattle.replay_level.specs.Carrying.{figuresIn, carriedFrom, OnLevel, Running, fitsSample, enteredAs, toldAs};
 use model::Figures;
 use model::Plan;
 use model::Record;
@@ -136,7 +136,7 @@ fn entered_as(figures: Figures, step: Step) -> Entered
 
 // The numbers are lent to `bring` here alone, so that no other function has a reference to them.
 fn brought(area: &[u8], plan: Plan, carried: Carried, at: usize) -> Outcome
-    requires { ⌜ ReadAt plan (now area) carried at ⌝ }
+    requires { ⌜ ReadAt (now area) at (OnLevel plan carried) ⌝ }
     ensures { λ r. ⌜ toldAs r ≡ entered plan (figuresIn carried) 0 (recordIn (part at recordLength (now (area .entry)))) ⌝ }
 {
     let mut here = carried;
@@ -149,7 +149,7 @@ fn brought(area: &[u8], plan: Plan, carried: Carried, at: usize) -> Outcome
 
 // Brings the numbers up to date with the record at an offset; answers whether it could stand.
 fn bring(carried: &mut Carried, area: &[u8], plan: Plan, at: usize) -> bool
-    requires { ⌜ ReadAt plan (now area) (now carried) at ⌝ }
+    requires { ⌜ ReadAt (now area) at (OnLevel plan (now carried)) ⌝ }
     ensures { λ r. ⌜ toldAs (record { stands = r; carried = now (carried .exit) }) ≡ entered plan (figuresIn (now (carried .entry))) 0 (recordIn (part at recordLength (now (area .entry)))) ⌝ }
 {
     let next = next(area, plan, *carried, at);
@@ -159,7 +159,7 @@ fn bring(carried: &mut Carried, area: &[u8], plan: Plan, at: usize) -> bool
 
 // The same by value.
 fn next(area: &[u8], plan: Plan, carried: Carried, at: usize) -> Outcome
-    requires { ⌜ ReadAt plan (now area) carried at ⌝ }
+    requires { ⌜ ReadAt (now area) at (OnLevel plan carried) ⌝ }
     ensures { λ r. ⌜ toldAs r ≡ entered plan (figuresIn carried) 0 (recordIn (part at recordLength (now (area .entry)))) ⌝ }
 {
     let Step::Stands(after) = take(plan, carried, records::get_record_at(area, at)) else {

@@ -197,3 +197,18 @@ module _ (p : Plan) (f : Figures) (r : Record) where
         go false true true s x y = absurd (never-both (holdsStop r) (stop-alone x y) s)
         go false true false s x y = failed (rw (x, y))
         go false false a s x y = failed (rw x)
+
+-- ---- a plan's step, told in figures: once for any type of steps, by what a step is told as on the figures before it
+module _ {Step : Type 0} (tells : Figures → Step → Entered) (f : Figures) (x z : Step) where
+  -- a step that turned out to be this one
+  module _ (is : x ≡ z) (v : Entered) (told : tells f z ≡ v) where
+    pub told-in : v ≡ tells f x
+    told-in = rw is (sym told)
+
+    pub told-as : (y : Entered) → tells f x ≡ y → v ≡ y
+    told-as y gives = told-in ∙ gives
+
+  -- a step by a test
+  pub by-test : (b : Bool) (g : Figures) → tells f x ≡ enteredWith true g → tells f z ≡ enteredWith false f → tells f (cond b x z) ≡ enteredIf b g f
+  by-test true g stands fails = stands
+  by-test false g stands fails = fails

@@ -122,6 +122,11 @@ pub record Ready (p : Plan) (area : List ℕ) (f : Figures) (from to : ℕ) : Ty
   pub stood : standTo p area from ≡ true
   pub brought : f ≡ figuresTo p area from
 
+-- a record whole in the area, and what is known of the numbers before it
+pub record ReadAt (area : List ℕ) (at : ℕ) (On : Type 0) : Type 0 where
+  pub inArea : at + recordLength ≤ length area
+  pub on : On
+
 -- what a replay of an area's first records gives, entry after entry: the figures after them where each stands, and else those before the
 -- first that does not
 unfoldable pub replayed : Plan → List ℕ → ℕ → Entered

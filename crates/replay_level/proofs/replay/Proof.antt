@@ -2,7 +2,6 @@
 use Prim.Native.Nat.{_-_}
 use native.Mathlib.Omega.{arith}
 use borrow.Author.Needs.{needs}
-use Rattle.little.specs.Little.{AreBytes}
 use Rattle.replaying.specs.Replaying.{Ready}
 use Rattle.replay_level.specs.Carrying.{figuresIn, toldAs}
 use Rattle.replay_level.proofs.Steps.{loops}
@@ -15,13 +14,10 @@ Inv-loop area plan from to carried₀ i₀ carried i = Ready plan area (figuresI
 abbrev μ-loop : tie.MeasureT-loop
 μ-loop area plan from to carried₀ i₀ carried i = to - i
 
-bytes-of : (c : tie.After-shared-slice-known Inv-loop μ-loop) → AreBytes (c .before .args .area .now)
-bytes-of c = λ k. c .shared-slice-known .given k .fits
-
 pub replay-spec : {M : Type 1} → statement M
 unfolding toldAs
 replay-spec =
     tie.close
-    (tie.spec Inv-loop μ-loop (λ c κs. search needs) (λ c. let bytes = bytes-of (c .before) in search loops) (λ c. search needs) (λ c. search needs)
-    (λ c κs. let bytes = bytes-of (c .before .before .before) in search loops) (λ c κs. search needs) (λ c. search loops) (λ c. search needs) (λ c. omega arith) (λ c. search loops) (λ c κs. search needs)
+    (tie.spec Inv-loop μ-loop (λ c κs. search needs) (λ c. search loops) (λ c. search needs) (λ c. search needs)
+    (λ c κs. search loops) (λ c κs. search needs) (λ c. search loops) (λ c. search needs) (λ c. omega arith) (λ c. search loops) (λ c κs. search needs)
     (λ c. search loops))
