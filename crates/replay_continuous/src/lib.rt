@@ -4,6 +4,7 @@
 //
 // It does not carry the state as the area has it. One number, left, is what is still to be screened until clearance, i - c, and 0 in sampling: so
 // it says the phase and which run fits.
+// What has a name that `replay_credit` has too is the same over a place in place of numbers, and is explained there.
 // Speed: what changes stays in three registers, and of `plans`' functions one subtraction is left; with the state itself a long stream takes
 // twice as long.
 ghost use mathlib.Core.Path.{_≡_};
@@ -47,13 +48,11 @@ struct Place {
     accepted: u64,
 }
 
-// An entry stands, and leaves this place; or it could not stand.
 enum Step {
     Stands(Place),
     Fails,
 }
 
-// Whether a record stands, and the place after it, or the one before it where it does not.
 struct Outcome {
     stands: bool,
     place: Place,
@@ -125,7 +124,6 @@ pub fn enter_stop(plan: Plan, figures: Figures, why: u32, days: u32) -> Entered
     )
 }
 
-// A step in the figures that it is about.
 fn entered_as(clearance: u32, figures: Figures, step: Step) -> Entered
     requires { ⌜ Within clearance step ⌝ }
     ensures { λ r. ⌜ r ≡ enteredAs clearance figures step ⌝ }
@@ -142,7 +140,6 @@ fn entered_as(clearance: u32, figures: Figures, step: Step) -> Entered
     }
 }
 
-// The place is lent to `bring` here alone, so that no other function has a reference to it.
 fn brought(area: &[u8], plan: Plan, place: Place, at: usize) -> Outcome
     requires { ⌜ ReadAt (now area) at (OnContinuous plan place) ⌝ }
     ensures { λ r. ⌜ Tells plan place (recordIn (part at recordLength (now (area .entry)))) r ⌝ }
@@ -155,7 +152,6 @@ fn brought(area: &[u8], plan: Plan, place: Place, at: usize) -> Outcome
     }
 }
 
-// Brings the place up to date with the record at an offset; answers whether it could stand.
 fn bring(place: &mut Place, area: &[u8], plan: Plan, at: usize) -> bool
     requires { ⌜ ReadAt (now area) at (OnContinuous plan (now place)) ⌝ }
     ensures { λ r. ⌜ Tells plan (now (place .entry)) (recordIn (part at recordLength (now (area .entry)))) (record { stands = r; place = now (place .exit) }) ⌝ }
@@ -165,7 +161,6 @@ fn bring(place: &mut Place, area: &[u8], plan: Plan, at: usize) -> bool
     next.stands
 }
 
-// The same by value.
 fn next(area: &[u8], plan: Plan, place: Place, at: usize) -> Outcome
     requires { ⌜ ReadAt (now area) at (OnContinuous plan place) ⌝ }
     ensures { λ r. ⌜ Tells plan place (recordIn (part at recordLength (now (area .entry)))) r ⌝ }

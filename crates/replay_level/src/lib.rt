@@ -1,7 +1,7 @@
-// The replay of a level stream's records, and its step: paper 01, "Level lots". The step is the one home of what a level stream's
-// entries do to its figures and of whether they may stand: the replay takes it for each record, a call for the entry that it is about to
-// write. What an entry can change is carried in six numbers; `specs/Carrying.antt` has the figures that they stand for.
-// Speed: the loop keeps the numbers in registers; with a step over the whole figures a record took 3 to 11 times as long.
+// The replay of a level stream's records, and its step: paper 01, "Level lots". The step is the one home of what a level stream's entries
+// do to its figures and of whether they may stand: the replay takes it for each record, a call for the entry that it is about to write.
+// What an entry can change is carried in six numbers; `specs/Carrying.antt` has the figures that they stand for. What has a name that
+// `replay_credit` has too is the same over these numbers, and is explained there.
 ghost use mathlib.Core.Path.{_≡_};
 ghost use Prim.Native.Nat.{_≤_};
 ghost use Rattle.little.specs.Little.{part};
@@ -32,13 +32,11 @@ struct Carried {
     above: u64,
 }
 
-// An entry stands, and leaves these numbers; or it could not stand.
 enum Step {
     Stands(Carried),
     Fails,
 }
 
-// Whether a record stands, and the numbers after it, or those before it where it does not.
 struct Outcome {
     stands: bool,
     carried: Carried,
@@ -118,7 +116,6 @@ pub fn enter_stop(plan: Plan, figures: Figures, why: u32, days: u32) -> Entered
     entered_as(figures, step_stop(plan, carried_from(figures), why, days))
 }
 
-// A step in the figures that it is about.
 fn entered_as(figures: Figures, step: Step) -> Entered
     ensures { λ r. ⌜ r ≡ enteredAs figures step ⌝ }
 {
@@ -134,7 +131,6 @@ fn entered_as(figures: Figures, step: Step) -> Entered
     }
 }
 
-// The numbers are lent to `bring` here alone, so that no other function has a reference to them.
 fn brought(area: &[u8], plan: Plan, carried: Carried, at: usize) -> Outcome
     requires { ⌜ ReadAt (now area) at (OnLevel plan carried) ⌝ }
     ensures { λ r. ⌜ toldAs r ≡ entered plan (figuresIn carried) 0 (recordIn (part at recordLength (now (area .entry)))) ⌝ }
@@ -147,7 +143,6 @@ fn brought(area: &[u8], plan: Plan, carried: Carried, at: usize) -> Outcome
     }
 }
 
-// Brings the numbers up to date with the record at an offset; answers whether it could stand.
 fn bring(carried: &mut Carried, area: &[u8], plan: Plan, at: usize) -> bool
     requires { ⌜ ReadAt (now area) at (OnLevel plan (now carried)) ⌝ }
     ensures { λ r. ⌜ toldAs (record { stands = r; carried = now (carried .exit) }) ≡ entered plan (figuresIn (now (carried .entry))) 0 (recordIn (part at recordLength (now (area .entry)))) ⌝ }
@@ -157,7 +152,6 @@ fn bring(carried: &mut Carried, area: &[u8], plan: Plan, at: usize) -> bool
     next.stands
 }
 
-// The same by value.
 fn next(area: &[u8], plan: Plan, carried: Carried, at: usize) -> Outcome
     requires { ⌜ ReadAt (now area) at (OnLevel plan carried) ⌝ }
     ensures { λ r. ⌜ toldAs r ≡ entered plan (figuresIn carried) 0 (recordIn (part at recordLength (now (area .entry)))) ⌝ }
@@ -305,7 +299,6 @@ fn carried_from(figures: Figures) -> Carried
     }
 }
 
-// Figures foreign to the plan are zero.
 fn figures_of(carried: Carried) -> Figures
     ensures { λ r. ⌜ r ≡ figuresIn carried ⌝ }
 {
