@@ -224,6 +224,10 @@ plan-range p t = go (isCredit p) (isLevel p) (isContinuous p) refl refl refl
     go false false true c l k = omega (arith, eqb-true (p .kind) 3 k, blocks-range p (rw (validPlan, c, l, k) at t))
     go false false false c l k = absurd (rw (validPlan, c, l, k) at t)
 
+-- one that is for neither credit nor levels is continuous
+pub third-kind : (p : Plan) → T (validPlan p) → (p .kind ≡ 1 → ⊥) → (p .kind ≡ 2 → ⊥) → p .kind ≡ 3
+third-kind p valid one two = omega (arith, plan-range p valid, one, two)
+
 pub continuous-plan : (p : Plan) → T (validPlan p) → isContinuous p ≡ true → ContinuousPlan p
 unfolding validPlan isCredit isLevel isContinuous
 continuous-plan p valid e =

@@ -1,16 +1,10 @@
 -- As in `replay`: by the plan, of which a valid one that is neither credit nor level is continuous.
-use native.Mathlib.Omega.{arith}
-use Rattle.model.proofs.Allowed.{plan-range}
+use Rattle.model.proofs.Allowed.{third-kind}
 use borrow.Author.Needs.{needs}
 use Rattle.replay.proofs.replay_newest.Statement.{statement}
 use Rattle.replay.proofs.replay_newest.Tie as tie
 
-replay-requires-3 : tie.Need-replay-requires-3
-replay-requires-3 c κs =
-    let ready = c .before .before .before .before .before .pre in
-    (ready, omega (arith, plan-range _ (ready .valid), c .before .before .if1 .left, c .if2 .left))
-
 pub replay-newest-spec : {M : Type 1} → statement M
 replay-newest-spec =
     tie.close
-    (tie.spec (λ c κs. search needs) (λ c. search needs) (λ c κs. search needs) (λ c. search needs) replay-requires-3 (λ c. search needs))
+    (tie.spec (λ c κs. search needs) (λ c. search needs) (λ c κs. search needs) (λ c. search needs) (λ c κs. search third-kind) (λ c. search needs))
