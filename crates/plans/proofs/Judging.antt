@@ -75,26 +75,34 @@ state level row judged window = record { level = level; row = row; judged = judg
 
 -- an accepted lot, which makes the window w
 module _ (permits : Bool) (s : LevelState) (w : ℕ) (window : w ≡ shifted false (s .window)) where
-  pub normal-tightens : s .level ≡ 1 → 2 ≤ withheldIn w → state 2 0 0 w ≡ judgedLot permits false s
-  unfolding levelAfter afterNormal counted arrived
-  normal-tightens l two =
-      let after : levelAfter permits (counted false s) ≡ 2 = simp (eq-eqb (s .level) 1 l, ← window, le-leb 2 (withheldIn w) two) in
-      rw window (sym (arrives permits false s 2 after (omega arith)))
+  -- on normal, with n withheld in it
+  module _ (n : ℕ) (counts : n ≡ withheldIn w) (l : s .level ≡ 1) where
+    pub normal-tightens : 2 ≤ n → state 2 0 0 w ≡ judgedLot permits false s
+    unfolding levelAfter afterNormal counted arrived
+    normal-tightens two =
+        let after : levelAfter permits (counted false s) ≡ 2 = simp (eq-eqb (s .level) 1 l, ← window, ← counts, le-leb 2 n two) in
+        rw window (sym (arrives permits false s 2 after (omega arith)))
 
-  pub normal-reduces : s .level ≡ 1 → withheldIn w < 2 → 9 ≤ s .row → permits ≡ true → state 0 0 0 w ≡ judgedLot permits false s
-  unfolding levelAfter afterNormal counted lengthened arrived
-  normal-reduces l one ten p =
-      let after : levelAfter permits (counted false s) ≡ 0 =
-      simp (eq-eqb (s .level) 1 l, ← window, lt-leb 2 (withheldIn w) one, p, le-leb 10 (s .row + 1) (omega arith)) in
-      rw window (sym (arrives permits false s 0 after (omega arith)))
+    module _ (one : n < 2) where
+      pub normal-reduces : 9 ≤ s .row → permits ≡ true → state 0 0 0 w ≡ judgedLot permits false s
+      unfolding levelAfter afterNormal counted lengthened arrived
+      normal-reduces ten p =
+          let after : levelAfter permits (counted false s) ≡ 0 =
+          simp (eq-eqb (s .level) 1 l, ← window, ← counts, lt-leb 2 n one, p, le-leb 10 (s .row + 1) (omega arith)) in
+          rw window (sym (arrives permits false s 0 after (omega arith)))
 
-  pub normal-stays : s .level ≡ 1 → withheldIn w < 2 → (permits && leb 10 (s .row + 1)) ≡ false
-      → state (s .level) (s .row + 1) 0 w ≡ judgedLot permits false s
-  unfolding levelAfter afterNormal counted lengthened judgedOnTightened
-  normal-stays l one few =
-      let after : levelAfter permits (counted false s) ≡ s .level =
-      simp (eq-eqb (s .level) 1 l, ← window, lt-leb 2 (withheldIn w) one, few) (sym l) in
-      rw window (rw (ne-eqb (s .level) 2 (omega arith)) at (sym (stays permits false s after)))
+      normal-stays : (permits && leb 10 (s .row + 1)) ≡ false → state (s .level) (s .row + 1) 0 w ≡ judgedLot permits false s
+      unfolding levelAfter afterNormal counted lengthened judgedOnTightened
+      normal-stays few =
+          let after : levelAfter permits (counted false s) ≡ s .level =
+          simp (eq-eqb (s .level) 1 l, ← window, ← counts, lt-leb 2 n one, few) (sym l) in
+          rw window (rw (ne-eqb (s .level) 2 (omega arith)) at (sym (stays permits false s after)))
+
+      pub normal-short : s .row < 9 → state (s .level) (s .row + 1) 0 w ≡ judgedLot permits false s
+      normal-short few = normal-stays (rw (lt-leb 10 (s .row + 1) (omega arith)) (and-false permits))
+
+      pub normal-unpermitted : permits ≡ false → state (s .level) (s .row + 1) 0 w ≡ judgedLot permits false s
+      normal-unpermitted never = normal-stays (rw never)
 
   pub tightened-leaves : s .level ≡ 2 → 4 ≤ s .row → state 1 0 0 w ≡ judgedLot permits false s
   unfolding levelAfter afterTightened counted lengthened arrived
@@ -170,3 +178,18 @@ module _ (permits : Bool) (s : LevelState) (w : ℕ) (window : w ≡ shifted tru
       let after : levelAfter permits (counted true s) ≡ s .level =
       simp (ne-eqb (s .level) 1 one, ne-eqb (s .level) 2 two, ne-eqb (s .level) 0 none) in
       rw window (rw (ne-eqb (s .level) 2 two) at (sym (stays permits true s after)))
+
+-- for the search: each law's facts are the window that was made and what was tested on the way
+pub ruleset accepts = (
+  normal-tightens,
+  normal-reduces,
+  normal-short,
+  normal-unpermitted,
+  tightened-leaves,
+  tightened-ends,
+  tightened-stays,
+  elsewhere-stays,
+  arith,
+)
+
+pub ruleset withholds = (withheld-ends, withheld-on, withheld-again, withheld-first, withheld-on-reduced, withheld-elsewhere, arith)
