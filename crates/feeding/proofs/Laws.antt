@@ -73,6 +73,13 @@ module _ (buffer : List ℕ) (have : ℕ) (line : List ℕ) (h : LineHeld buffer
         short = omega arith;
       }
 
+-- in the code's own form
+pub room-held : (buffer : List ℕ) (have : ℕ) → LineHeld buffer have (take have buffer) → have ≤ length buffer
+room-held buffer have h = omega (arith, held-room buffer have _ h, h .short)
+
+pub line-cleared : (buffer line′ : List ℕ) (have : ℕ) → LineHeld buffer have (take have buffer) → line′ ≡ zeros have ++ drop have buffer → LineHeld line′ 0 []
+line-cleared buffer line′ have h same = rw same (cleared buffer have _ h)
+
 pub held-state : (store buffer : List ℕ) (have : ℕ) (u : Unfinished) → store ≡ u .store → LineHeld buffer have (u .line) → held store buffer have ≡ u
 held-state store buffer have u same h = rw (held-line buffer have (u .line) h, same)
 
@@ -194,6 +201,14 @@ frame-fed store line have piece i out at r store′ out′ tried was h = go (lie
     go true whole Bad frame made = absurd (never-both r was (made .0))
     go false whole f frame made = absurd (never-both r was (made .0))
 
+-- where no frame was taken, bytes are fed to what stood before it was tried
+pub fed-unframed : (store line out : List ℕ) (have at : ℕ) (f : Frame) (r : Bool) (store₁ out₁ bytes : List ℕ) (r′ : Fed) (store′ line′ out′ : List ℕ)
+    → FrameTried f store out at r store₁ out₁ → r ≡ false → FedBy (held store₁ line have) bytes out₁ at r′ store′ line′ out′
+    → FedBy (held store line have) bytes out at r′ store′ line′ out′
+fed-unframed store line out have at f r store₁ out₁ bytes r′ store′ line′ out′ tried none fed =
+    let same = no-frame store out at r store₁ out₁ f tried none in
+    rw (same .1, same .2) at fed
+
 -- ---- the bytes of a piece
 
 take-part : (i k : ℕ) (piece : List ℕ) → take (i + k) piece ≡ take i piece ++ part i k piece
@@ -232,9 +247,9 @@ unfolding atEnd lastLine
 nothing-left store line out have none = rw none (record { made = refl; text = sym (written-nil 0 out); count = refl })
 
 pub last-line : (store line out : List ℕ) (have wrote : ℕ) (store′ out′ : List ℕ)
-    → 0 < have → have ≤ length line
+    → (have ≡ 0 → ⊥) → have ≤ length line
     → Answered (onLine store (take have line)) out 0 wrote store′ out′
     → Answered (atEnd (held store line have)) out 0 wrote store′ out′
 unfolding atEnd
 last-line store line out have wrote store′ out′ some inside answered =
-    rw (some-last store (take have line) (rw (length-take-le have line inside) some)) answered
+    rw (some-last store (take have line) (rw (length-take-le have line inside) (omega (arith, some)))) answered

@@ -10,7 +10,7 @@ unfolding onLine
 returns c = frame-line-ended _ _ _ _ _ _ _ (c .before .before .before .before .before .make-frame .ensures) (c .if1 .taken)
 
 returns-2 : tie.Need-returns-2
-returns-2 c = bad-line _ _ _ _ _ _ _ _ (c .before .before .before .before .before .before .before .before .before .make-frame .ensures) (c .before .before .before .before .if1 .left) (c .before .before .write-bad .ensures)
+returns-2 c = search bad-line
 
 pub end-line-spec : {M : Type 1} → statement M
 end-line-spec =

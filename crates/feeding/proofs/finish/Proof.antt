@@ -1,6 +1,5 @@
 -- Without a byte of a line the definition comes to nothing too; with one it is that of a line that ended.
 use mathlib.Core.Path.{sym}
-use native.Mathlib.Omega.{arith}
 use lib.Seq.{length-take-le}
 use borrow.Author.Needs.{needs}
 use Rattle.feeding.proofs.Laws.{nothing-left, last-line}
@@ -16,9 +15,7 @@ slice-aggregate-end-line c =
     sym (length-take-le (start .args .have) (start .args .line .now) (start .pre .0))
 
 returns-2 : tie.Need-returns-2
-returns-2 c =
-    let start = c .before .before .before .before .before .before .before .before .before .before .before .before in
-    last-line _ _ _ _ _ _ _ (omega arith) (start .pre .0) (c .before .before .before .before .end-line .ensures)
+returns-2 c = search last-line
 
 pub finish-spec : {M : Type 1} → statement M
 finish-spec = tie.close (tie.spec returns slice-aggregate-end-line (λ c κs. search needs) (λ c. search needs) (λ c. search needs) returns-2)

@@ -13,6 +13,19 @@ use Rattle.feeding.proofs.Laws.{none-whole}
 use Rattle.feeding.proofs.take_frame.Statement.{statement}
 use Rattle.feeding.proofs.take_frame.Tie as tie
 
+-- behind the first test, behind all three, and behind `make_frame`
+abbrev start : tie.Else1 → tie.Start
+start c = c .before .before .before .before
+
+abbrev nothing-kept : tie.Else3 → tie.Else1
+nothing-kept c = c .before .before .before
+
+abbrev tested : tie.After-make-frame → tie.Else3
+tested c = c .before .before .before .before
+
+abbrev made : tie.After-slice-known4 → tie.After-make-frame
+made c = c .before .before .before .before
+
 returns : tie.Need-returns
 unfolding liesWhole
 returns c = none-whole _ _ _ _ _ _ (simp (ne-eqb _ _ (c .if1 .taken)))
@@ -20,26 +33,27 @@ returns c = none-whole _ _ _ _ _ _ (simp (ne-eqb _ _ (c .if1 .taken)))
 returns-2 : tie.Need-returns-2
 unfolding liesWhole
 returns-2 c =
-    let start = c .before .before .before .before .before in
-    let short : length (start .args .piece .now) < start .args .i + lineRoom = omega arith in
+    let args = start (c .before) .args in
+    let short : length (args .piece .now) < args .i + lineRoom = omega arith in
     none-whole _ _ _ _ _ _ (simp (eq-eqb _ 0 (c .before .if1 .left), lt-leb _ _ short))
 
 returns-3 : tie.Need-returns-3
 unfolding liesWhole
 returns-3 c =
-    let start = c .before .before .before .before .before .before .before in
-    let inside : start .args .i + lineRoom ≤ length (start .args .piece .now) = omega arith in
-    none-whole _ _ _ _ _ _ (simp (eq-eqb _ 0 (c .before .before .before .if1 .left), le-leb _ _ inside, ne-eqb _ _ (c .if3 .taken)))
+    let first = c .before .before .before in
+    let args = start first .args in
+    let inside : args .i + lineRoom ≤ length (args .piece .now) = omega arith in
+    none-whole _ _ _ _ _ _ (simp (eq-eqb _ 0 (first .if1 .left), le-leb _ _ inside, ne-eqb _ _ (c .if3 .taken)))
 
 returns-4 : tie.Need-returns-4
 unfolding part liesWhole frameAt
 returns-4 c =
-    let start = c .before .before .before .before .before .before .before .before .before .before .before .before .before .before .before in
-    let i = start .args .i in
-    let width : i + frameLength - i ≡ frameLength = omega arith in
-    let inside : i + lineRoom ≤ length (start .args .piece .now) = omega arith in
-    simp (eq-eqb _ 0 (c .before .before .before .before .before .before .before .before .before .before .before .if1 .left), le-leb _ _ inside, eq-eqb _ _ (c .before .before .before .before .before .before .before .before .if3 .left))
-    (rw width at (c .before .before .before .before .make-frame .ensures))
+    let last = tested (made c) in
+    let first = nothing-kept last in
+    let args = start first .args in
+    let width : args .i + frameLength - args .i ≡ frameLength = omega arith in
+    let inside : args .i + lineRoom ≤ length (args .piece .now) = omega arith in
+    simp (eq-eqb _ 0 (first .if1 .left), le-leb _ _ inside, eq-eqb _ _ (last .if3 .left)) (rw width at (made c .make-frame .ensures))
 
 pub take-frame-spec : {M : Type 1} → statement M
 take-frame-spec =

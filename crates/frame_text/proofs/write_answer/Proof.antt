@@ -50,13 +50,21 @@ returns c =
     rw (fourth .put-digits4 .ensures, third .put-digits3 .ensures, second .put-digits2 .ensures, first .put-digits .ensures)
     (one-line (args .at) (args .answer) (args .out .now) (omega (arith, first .before .before .before .pre)))
 
+-- the function's start, from behind the second number, and that place from the end
+abbrev start : tie.After-put-digits2 → tie.Start
+start c = c .before .before .before .before .before .before .before
+
+abbrev half : tie.After-slice-known5 → tie.After-put-digits2
+half c =
+    let fourth = c .before .before in
+    fourth .before .before .before .before .before .before .before .before
+
 same-length : tie.Need-same-length
 same-length c =
-    let start = c .before .before .before .before .before .before .before .before .before .before .before .before .before .before .before .before .before in
-    let args = start .args in
+    let args = start (half c) .args in
     ap length (returns c)
     ∙ length-written (args .at) (answerText (args .answer)) (args .out .now)
-    (omega (arith, start .pre, length-answer (args .answer)))
+    (omega (arith, start (half c) .pre, length-answer (args .answer)))
 
 pub write-answer-spec : {M : Type 1} → statement M
 write-answer-spec =

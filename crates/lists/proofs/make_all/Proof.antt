@@ -18,8 +18,21 @@ Inv-loop store₀ calls count answers₀ i₀ store answers i = (i ≤ count) ×
 abbrev μ-loop : tie.MeasureT-loop
 μ-loop store₀ calls count answers₀ i₀ store answers i = count - i
 
+-- behind `make_one`, the turn's head, and the function's start
+abbrev made : tie.After-slice-known4 Inv-loop μ-loop → tie.After-make-one Inv-loop μ-loop
+made c = c .before .before .before .before
+
+abbrev head : tie.After-make-one Inv-loop μ-loop → tie.At-loop Inv-loop μ-loop
+head c = c .before .before .before .before
+
+abbrev start : tie.At-loop Inv-loop μ-loop → tie.Start Inv-loop μ-loop
+start c = c .before .before .before .before
+
 loop-holds : tie.Need-loop-holds Inv-loop μ-loop
-loop-holds c = let none = none-made (c .before .before .before .args .store .now) (c .before .before .before .args .calls .now) (c .before .before .before .args .answers .now) in (omega arith, none .0, none .1, refl, refl)
+loop-holds c =
+    let args = c .before .before .before .args in
+    let none = none-made (args .store .now) (args .calls .now) (args .answers .now) in
+    (omega arith, none .0, none .1, refl, refl)
 
 make-one-requires : tie.Need-make-one-requires Inv-loop μ-loop
 make-one-requires c κs = omega arith
@@ -29,12 +42,12 @@ loop-less c = omega arith
 
 loop-again : tie.Need-loop-again Inv-loop μ-loop
 loop-again c =
-    let one = c .before .before .before .before .make-one in
-    let turn = c .before .before .before .before .before .before .before .before .loop in
-    let start = c .before .before .before .before .before .before .before .before .before .before .before .before in
-    let all = made-before _ (suc (turn .i)) (start .args .count) (omega arith) (start .pre .2) in
+    let one = made c .make-one in
+    let turn = head (made c) .loop in
+    let from = start (head (made c)) in
+    let all = made-before _ (suc (turn .i)) (from .args .count) (omega arith) (from .pre .2) in
     let next =
-    turn-made (start .args .store .now) (start .args .calls .now) (turn .i) (start .args .answers .now) all (omega arith) (turn .inv .1)
+    turn-made (from .args .store .now) (from .args .calls .now) (turn .i) (from .args .answers .now) all (omega arith) (turn .inv .1)
     (turn .inv .2) (one .ensures .0) (one .ensures .1) in
     (omega arith, next .0, next .1, one .kept .0 ∙ turn .inv .3, one .kept .1 .1 .1 .0 ∙ turn .inv .4)
 
@@ -46,11 +59,12 @@ same-length-2 c = c .before .loop .inv .4
 
 returns : tie.Need-returns Inv-loop μ-loop
 returns c =
-    let start = c .before .before .before .before .before .args in
+    let from = start (c .before) in
+    let args = from .args in
     let turn = c .before .loop in
-    let all : turn .i ≡ start .count = omega arith in (
+    let all : turn .i ≡ args .count = omega arith in (
       rw all at (turn .inv .1),
-      (rw all at (turn .inv .2)) ∙ answers-all (start .store .now) (start .calls .now) (start .count) (start .answers .now) (c .before .before .before .before .before .pre .2) (c .before .before .before .before .before .pre .1),
+      (rw all at (turn .inv .2)) ∙ answers-all (args .store .now) (args .calls .now) (args .count) (args .answers .now) (from .pre .2) (from .pre .1),
     )
 
 pub make-all-spec : {M : Type 1} → statement M

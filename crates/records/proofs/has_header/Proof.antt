@@ -3,7 +3,9 @@
 use borrow.Author.Needs.{needs}
 use borrow.Author.Tests.{eq-eqb, not-true, not-false}
 use native.Mathlib.Omega.{arith}
+use Prim.Native.Nat.{ℕ}
 use mathlib.Core.Path.{_≡_, refl}
+use mathlib.Core.List.{List}
 use lib.Dec.{lit<, lit≤}
 use lib.ListN.{length}
 use Rattle.little.specs.Little.{bytes, part, AreBytes}
@@ -18,44 +20,68 @@ has-plan-requires c κs =
     let pre = c .before .before .before .pre in
     (pre .0, plan-fits _ _ (pre .1) (pre .2))
 
+-- the function's start, seen from behind each part that is the same
+abbrev behind-plan : tie.Else1 → tie.Start
+behind-plan c = c .before .before .before .before .before
+
+abbrev behind-twelve : tie.Else2 → tie.Start
+behind-twelve c = behind-plan (c .before .before)
+
+abbrev behind-credit : tie.Else3 → tie.Start
+behind-credit c = behind-twelve (c .before .before .before)
+
+abbrev behind-level : tie.Else4 → tie.Start
+behind-level c = behind-credit (c .before .before)
+
+abbrev behind-continuous : tie.Else5 → tie.Start
+behind-continuous c = behind-level (c .before .before)
+
+abbrev area : tie.Start → List ℕ
+area c = c .args .area .now
+
+abbrev header : tie.Start → List ℕ
+header c = headerOf (c .args .plan) (c .args .count) (c .args .figures)
+
 returns : tie.Need-returns
 unfolding headerOf bytes part
 returns c =
-    let args = c .before .before .before .before .before .args in
-    part-differs 0 0 12 (args .area .now) (headerOf (args .plan) (args .count) (args .figures)) (lit≤ tt) (decided-not (c .before .has-plan .ensures (args .figures)) (not-true _ (c .if1 .taken)))
+    let start = c .before .before .before .before .before in
+    part-differs 0 0 12 (area start) (header start) (lit≤ tt) (decided-not (c .before .has-plan .ensures (start .args .figures)) (not-true _ (c .if1 .taken)))
 
 returns-2 : tie.Need-returns-2
 unfolding headerOf bytes part
 returns-2 c =
-    let args = c .before .before .before .before .before .before .before .args in
-    number-differs 0 12 4 0 (args .area .now) (headerOf (args .plan) (args .count) (args .figures)) (lit≤ tt) refl (lit< tt) (c .before .get-u32 .ensures) (c .if2 .taken)
+    let start = behind-plan (c .before .before) in
+    number-differs 0 12 4 0 (area start) (header start) (lit≤ tt) refl (lit< tt) (c .before .get-u32 .ensures) (c .if2 .taken)
 
 returns-3 : tie.Need-returns-3
 unfolding headerOf bytes part
 returns-3 c =
-    let args = c .before .before .before .before .before .before .before .before .before .before .args in
-    number-differs 0 16 4 (args .figures .credit .0) (args .area .now) (headerOf (args .plan) (args .count) (args .figures)) (lit≤ tt) refl (omega (arith, c .before .struct-known .given))
+    let start = behind-twelve (c .before .before .before) in
+    number-differs 0 16 4 (start .args .figures .credit .0) (area start) (header start) (lit≤ tt) refl (omega (arith, c .before .struct-known .given))
     (c .before .before .get-u322 .ensures) (c .if3 .taken)
 
 returns-4 : tie.Need-returns-4
 unfolding headerOf bytes part
 returns-4 c =
-    let args = c .before .before .before .before .before .before .before .before .before .before .before .before .args in
-    part-differs 0 20 4 (args .area .now) (headerOf (args .plan) (args .count) (args .figures)) (lit≤ tt)
+    let start = behind-credit (c .before .before) in
+    let args = start .args in
+    part-differs 0 20 4 (area start) (header start) (lit≤ tt)
     (decided-not (c .before .has-level .ensures (args .plan) (args .count) (args .figures) refl) (not-true _ (c .if4 .taken)))
 
 returns-5 : tie.Need-returns-5
 unfolding headerOf bytes part
 returns-5 c =
-    let args = c .before .before .before .before .before .before .before .before .before .before .before .before .before .before .args in
-    part-differs 0 24 8 (args .area .now) (headerOf (args .plan) (args .count) (args .figures)) (lit≤ tt)
+    let start = behind-level (c .before .before) in
+    let args = start .args in
+    part-differs 0 24 8 (area start) (header start) (lit≤ tt)
     (decided-not (c .before .has-continuous .ensures (args .plan) (args .count) (args .figures) refl) (not-true _ (c .if5 .taken)))
 
 returns-6 : tie.Need-returns-6
 unfolding headerOf bytes part
 returns-6 c =
-    let args = c .before .before .before .before .before .before .before .before .before .before .before .before .before .before .before .before .before .args in
-    number-differs 0 32 8 (args .figures .accepted) (args .area .now) (headerOf (args .plan) (args .count) (args .figures)) (lit≤ tt) refl (omega (arith, c .before .struct-known2 .given))
+    let start = behind-continuous (c .before .before .before) in
+    number-differs 0 32 8 (start .args .figures .accepted) (area start) (header start) (lit≤ tt) refl (omega (arith, c .before .struct-known2 .given))
     (c .before .before .get-u64 .ensures) (c .if6 .taken)
 
 returns-7 : tie.Need-returns-7

@@ -13,6 +13,13 @@ use Rattle.records.proofs.Laws.{byte-compares, both-compare, byte-diffe
 use Rattle.records.proofs.has_level.Statement.{statement}
 use Rattle.records.proofs.has_level.Tie as tie
 
+-- the function's start, seen from behind each number that is the same
+abbrev behind-level : tie.Else1 → tie.Start
+behind-level c = c .before .before .before .before
+
+abbrev behind-row : tie.Else2 → tie.Start
+behind-row c = behind-level (c .before .before .before)
+
 returns : tie.Need-returns
 unfolding headerOf bytes part
 returns c p n f e =
@@ -22,13 +29,13 @@ returns c p n f e =
 returns-2 : tie.Need-returns-2
 unfolding headerOf bytes part
 returns-2 c p n f e =
-    let args = c .before .before .before .before .before .before .before .args in
+    let args = behind-level (c .before .before .before) .args in
     byte-differs 20 1 (args .state .row) (args .area .now) (part 20 4 (headerOf p n f)) (lit< tt) (rw e) (c .before .before .byte2 .ensures .0) (c .if2 .taken)
 
 returns-3 : tie.Need-returns-3
 unfolding headerOf bytes part
 returns-3 c p n f e =
-    let args = c .before .before .before .before .before .before .before .before .before .before .args in
+    let args = behind-row (c .before .before .before) .args in
     byte-differs 20 2 (args .state .judged) (args .area .now) (part 20 4 (headerOf p n f)) (lit< tt) (rw e) (c .before .before .byte3 .ensures .0) (c .if3 .taken)
 
 returns-4 : tie.Need-returns-4
