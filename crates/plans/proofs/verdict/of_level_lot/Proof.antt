@@ -4,13 +4,8 @@ use Rattle.plans.specs.Verdicts.{levelVerdict}
 use Rattle.plans.proofs.verdict.of_level_lot.Statement.{statement}
 use Rattle.plans.proofs.verdict.of_level_lot.Tie as tie
 
-returns : tie.Need-returns
-unfolding levelVerdict
-returns c = simp (eq-eqb _ _ (c .if1 .taken))
-
-returns-2 : tie.Need-returns-2
-unfolding levelVerdict
-returns-2 c = simp (ne-eqb _ _ (c .if1 .left))
-
 pub of-level-lot-spec : {M : Type 1} → statement M
-of-level-lot-spec = tie.close (tie.spec returns returns-2)
+unfolding levelVerdict
+of-level-lot-spec =
+    tie.close
+    (tie.spec (λ c. simp (eq-eqb _ _ (c .if1 .taken))) (λ c. simp (ne-eqb _ _ (c .if1 .left))))
