@@ -10,6 +10,8 @@ use native.Mathlib.Omega.{arith}
 use lib.Dec.{lit<}
 use lib.ListN.{length, take, drop, getD, set, length-append, length-take, length-drop, take-append-drop}
 use lib.Seq.{take-suc, drop-cons, length-take-le, take-at, drop-at, take-append-seam, set-split, drop-drop, getD-take, getD-drop, ext-getD}
+use mir.Syntax.{w8}
+use mir.Val.{Fits}
 use Rattle.little.specs.Little.{bytes, value, part, written, AreBytes}
 
 -- ---- a number and its bytes
@@ -38,6 +40,10 @@ bytes-value (b ∷ s) h =
     let low : (b + 256 * value s) % 256 ≡ b = omega (arith, h 0) in
     let high : (b + 256 * value s) / 256 ≡ value s = omega (arith, h 0) in
     rw (low, high, bytes-value s (λ i. h (suc i)))
+
+-- what a slice holds are bytes
+pub slice-bytes : (s : List ℕ) → ((i : ℕ) → Fits w8 (getD s i 0)) → AreBytes s
+slice-bytes s known i = known i .fits
 
 -- ---- a part of a list, and a write to one
 

@@ -5,10 +5,8 @@ use mathlib.Core.Bool.{false}
 use mathlib.Core.List.{List}
 use native.Mathlib.Omega.{arith}
 use lib.Dec.{T}
-use lib.ListN.{getD}
-use mir.Syntax.{w8}
-use mir.Val.{Fits}
 use Rattle.little.specs.Little.{AreBytes}
+use Rattle.little.proofs.Laws.{slice-bytes}
 use Rattle.plans.specs.Continuous.{screening}
 use Rattle.model.specs.declared.Plan.{Plan}
 use Rattle.model.specs.declared.Entry.{Entry}
@@ -77,10 +75,6 @@ module _ (p : Plan) (area : List ℕ) (f : Figures) (i to : ℕ) (ready : Ready 
         free = omega (arith, length-entries p (recordsIn area) i);
         after = ready .brought;
       }
-
--- what is known of a slice of bytes
-pub slice-bytes : (area : List ℕ) → ((k : ℕ) → Fits w8 (getD area k 0)) → AreBytes area
-slice-bytes area known k = known k .fits
 
 -- what a replay's loop needs of its turns
 pub ruleset turns = (slice-bytes, turn-inside, turn-taken, turn-failed, turns-over, ready-reached)

@@ -4,7 +4,8 @@ use borrow.Author.Needs.{needs}
 use native.Mathlib.Omega.{arith}
 use mathlib.Core.Path.{_≡_, refl}
 use lib.ListN.{length}
-use Rattle.little.specs.Little.{bytes, part, AreBytes}
+use Rattle.little.specs.Little.{bytes, part}
+use Rattle.little.proofs.Laws.{slice-bytes}
 use Rattle.model.specs.Sizes.{areaLength}
 use Rattle.model.specs.Area.{headerOf}
 use Rattle.records.proofs.Laws.{number-compares, byte-compares, both-compare}
@@ -22,7 +23,7 @@ returns c p n f e =
     let area = known .before .args .area .now in
     let state = known .before .args .state in
     let long : length area ≡ areaLength = known .before .pre in
-    let are-bytes : AreBytes area = λ i. omega (arith, known .shared-slice-known .given i) in
+    let are-bytes = slice-bytes area (known .shared-slice-known .given) in
     let count =
     number-compares 24 4 (state .count) area are-bytes (omega arith) (omega (arith, at-phase .before .struct-known .given)) (at-count .get-u32 .ensures) in
     let phase = byte-compares 28 (state .phase) area (omega arith) refl in

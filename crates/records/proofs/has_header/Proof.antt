@@ -8,7 +8,8 @@ use mathlib.Core.Path.{_≡_, refl}
 use mathlib.Core.List.{List}
 use lib.Dec.{lit<, lit≤}
 use lib.ListN.{length}
-use Rattle.little.specs.Little.{bytes, part, AreBytes}
+use Rattle.little.specs.Little.{bytes, part}
+use Rattle.little.proofs.Laws.{slice-bytes}
 use Rattle.model.specs.Sizes.{areaLength}
 use Rattle.model.specs.Area.{headerOf}
 use Rattle.records.proofs.Laws.{plan-fits, decided-not, Compares, number-compares, both-compare, part-differs, number-differs}
@@ -99,7 +100,7 @@ returns-7 c =
     let n = known .before .args .count in
     let f = known .before .args .figures in
     let long : length area ≡ areaLength = known .before .pre .0 in
-    let are-bytes : AreBytes area = λ i. omega (arith, known .shared-slice-known .given i) in
+    let are-bytes = slice-bytes area (known .shared-slice-known .given) in
     let plan : Compares _ area 0 (part 0 12 (headerOf p n f)) = record { decides = past-plan .before .has-plan .ensures f } in
     let twelve = number-compares 12 4 0 area are-bytes (omega arith) (lit< tt) (past-twelve .before .get-u32 .ensures) in
     let credit =

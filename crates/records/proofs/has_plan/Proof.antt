@@ -5,7 +5,8 @@ use native.Mathlib.Omega.{arith}
 use mathlib.Core.Path.{_≡_, refl}
 use lib.Dec.{lit<}
 use lib.ListN.{length}
-use Rattle.little.specs.Little.{bytes, part, AreBytes}
+use Rattle.little.specs.Little.{bytes, part}
+use Rattle.little.proofs.Laws.{slice-bytes}
 use Rattle.model.specs.Sizes.{areaLength}
 use Rattle.model.specs.Area.{headerOf, countIn}
 use Rattle.records.proofs.Laws.{number-compares, byte-compares, both-compare}
@@ -26,7 +27,7 @@ returns c f =
     let n = known .before .args .count in
     let long : length area ≡ areaLength = known .before .pre .0 in
     let fits = known .before .pre .1 in
-    let are-bytes : AreBytes area = λ i. omega (arith, known .shared-slice-known .given i) in
+    let are-bytes = slice-bytes area (known .shared-slice-known .given) in
     let kind = byte-compares 0 (p .kind) area (omega arith) (at-kind .byte .ensures .0) in
     let option = byte-compares 1 (p .option) area (omega arith) (at-option .byte2 .ensures .0) in
     let count = number-compares 2 2 n area are-bytes (omega arith) (fits .counts) (at-count .get-count .ensures .0) in

@@ -2,7 +2,7 @@
 use Rattle.replaying.proofs.Turns.{figures-after}
 use Rattle.replay.proofs.Readings.{sayings, says-opened}
 use borrow.Author.Tests.{not-false}
-use Rattle.little.specs.Little.{AreBytes}
+use Rattle.little.proofs.Laws.{slice-bytes}
 use borrow.Author.Needs.{needs}
 use Rattle.replay.proofs.read_records.Statement.{statement}
 use Rattle.replay.proofs.read_records.Tie as tie
@@ -19,7 +19,7 @@ returns-4 c =
     let older = replayed .replay in
     let fits = compared .fits-header in
     let clear = looked .is-zero-from in
-    let bytes : AreBytes (start .args .area .now) = λ k. cut .before .shared-slice-known .given k .fits in
+    let bytes = slice-bytes (start .args .area .now) (cut .before .shared-slice-known .given) in
     says-opened (start .args .newest) (start .args .area .now) (start .args .plan) (start .args .count) (start .pre) (older .result .figures) bytes
     (rw (cut .without .ensures) at (figures-after _ _ _ _ (older .ensures) (not-false (older .result .sound) (stood .if1 .left))))
     (fits .ensures .shows (not-false (fits .result) (c .if3 .left)))
