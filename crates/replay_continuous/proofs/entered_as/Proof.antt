@@ -11,5 +11,6 @@ pub entered-as-spec : {M : Type 1} → statement M
 unfolding enteredAs soundAt unsoundAt
 entered-as-spec =
     tie.close
-    (tie.spec (λ c. search needs) (λ c. search needs) (λ c. search (told-in (enteredAs (c .before .before .args .clearance)))) (λ c κs. search stands-within)
+    (tie.spec (λ c. search needs) (λ c. search needs) (λ c. search (told-in (enteredAs (c .before .before .args .clearance))))
+    (λ c κs. search stands-within)
     (λ c. search (told-in (enteredAs (c .before .before .before .before .args .clearance)), c .figures-at .ensures)))

@@ -18,6 +18,6 @@ pub replay-spec : {M : Type 1} → statement M
 unfolding toldAs
 replay-spec =
     tie.close
-    (tie.spec Inv-loop μ-loop (λ c κs. search loops) (λ c. search loops) (λ c. omega arith) (λ c. omega arith)
-    (λ c κs. search loops) (λ c κs. search needs) (λ c. search loops) (λ c. search needs) (λ c. omega arith) (λ c. search loops)
-    (λ c κs. search needs) (λ c. search loops))
+    (tie.spec Inv-loop μ-loop (λ c κs. search loops) (λ c. search loops) (λ c. omega arith) (λ c. omega arith) (λ c κs. search loops)
+    (λ c κs. search needs) (λ c. search loops) (λ c. search needs) (λ c. omega arith) (λ c. search loops) (λ c κs. search needs)
+    (λ c. search loops))

@@ -10,5 +10,6 @@ pub next-spec : {M : Type 1} → statement M
 unfolding toldAs enteredAs soundAt unsoundAt
 next-spec =
     tie.close
-    (tie.spec (λ c κs. search needs) (λ c κs. search needs) (λ c. search needs) (λ c. search needs) (λ c. search (told-as enteredAs, entered-read))
+    (tie.spec (λ c κs. search needs) (λ c κs. search needs) (λ c. search needs) (λ c. search needs)
+    (λ c. search (told-as enteredAs, entered-read))
     (λ c. search (told-as enteredAs, entered-read)))

@@ -10,4 +10,5 @@ pub entered-as-spec : {M : Type 1} → statement M
 unfolding enteredAs soundAt unsoundAt
 entered-as-spec =
     tie.close
-    (tie.spec (λ c. search needs) (λ c. search needs) (λ c. search (told-in enteredAs)) (λ c κs. search needs) (λ c. search (told-in enteredAs, c .figures-of .ensures)))
+    (tie.spec (λ c. search needs) (λ c. search needs) (λ c. search (told-in enteredAs)) (λ c κs. search needs)
+    (λ c. search (told-in enteredAs, c .figures-of .ensures)))
