@@ -1,6 +1,6 @@
 //! The worked day of docs/MANUAL.md: its tables are those of tests/cases/manual-day.txt.
 
-use crate::notation::{Action, Given, Step};
+use crate::notation::{Action, Case, Given, Step};
 use crate::{place, running};
 use outside::at;
 use reference::{answer_line, line};
@@ -11,7 +11,7 @@ const MANUAL: &str = "docs/MANUAL.md";
 const SECTION: &str = "## A worked day";
 
 pub fn print() -> Result<(), String> {
-    println!("{}", tables()?.join("\n"));
+    println!("{}", stored_tables()?.join("\n"));
     Ok(())
 }
 
@@ -23,7 +23,7 @@ pub fn test() -> Result<(), String> {
     let stands: Vec<&str> = section
         .filter(|line| line.starts_with("### ") || line.starts_with('|'))
         .collect();
-    let tables = tables()?;
+    let tables = stored_tables()?;
     let given = tables.iter().filter(|line| !line.is_empty());
     for (k, line) in given.clone().enumerate() {
         let stood = stands.get(k).copied().unwrap_or("nothing");
@@ -34,21 +34,28 @@ pub fn test() -> Result<(), String> {
         }
     }
     match stands.get(given.count()) {
-        Some(line) => Err(format!("{MANUAL} has '{line}' behind what {CASES} gives")),
+        Some(line) => Err(format!("{MANUAL} has '{line}' after what {CASES} gives")),
         None => Ok(()),
     }
 }
 
-/// A heading for each comment on a line of its own, and under it a table: a row for each line, its comment saying what happened.
-fn tables() -> Result<Vec<String>, String> {
-    let cases = at(|| CASES.into(), running::read(&place(CASES)))?;
+fn stored_tables() -> Result<Vec<String>, String> {
+    at(|| CASES.into(), running::read(&place(CASES)).and_then(|cases| tables(&cases)))
+}
+
+/// A heading for each comment on a line of its own, and under it a table: a row for each line, its comment saying what happened. The
+/// day is one case, since its rows are all on one store.
+pub fn tables(cases: &[Case]) -> Result<Vec<String>, String> {
+    let [day] = cases else {
+        return Err(format!("a day is one case, not {}", cases.len()));
+    };
     let mut lines = Vec::new();
-    for (step, number) in cases.iter().flat_map(|case| &case.steps).zip(1..) {
+    for (step, number) in day.steps.iter().zip(1..) {
         if let Some(title) = &step.title {
             lines.extend([String::new(), format!("### {title}"), String::new()]);
             lines.extend(["| What happened | Frame | Answer |".into(), "|---|---|---|".into()]);
         }
-        lines.push(at(|| format!("{CASES}, line {}", step.line), row(step, number))?);
+        lines.push(at(|| format!("line {}", step.line), row(step, number))?);
     }
     Ok(lines)
 }

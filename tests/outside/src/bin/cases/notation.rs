@@ -2,7 +2,7 @@
 //!
 //!     # text                     a heading: a case begins, on a fresh store, and this is its name
 //!                                a blank line: the next line begins a case of its own, on a fresh store
-//!     // text                    a comment, on a line of its own, which ends no case, or behind a line
+//!     // text                    a comment, on a line of its own, which ends no case, or after a line
 //!     lot 1 201 51 0 0 -> 0 1 201 201
 //!                                a call by its name, its arguments, the refusal and the numbers of its answer, all decimal
 //!     stream 3                   the lines up to the end of the case are about this stream; a case begins with stream 0
@@ -11,10 +11,12 @@
 //!     put 16 c8 00               writes these bytes into the stream's area, as no call does
 //!     frame 06ff -> ff           a line for the program, and the line that it prints; \r is a carriage return
 //!
-//! A line that is none of them, a heading without a line and a file without a case are errors.
+//! Words are parted by plain blanks, and a number has no sign and no leading zero. A line that is none of these is an error. So are a
+//! heading that stands twice, a heading or a stream that no line follows, a case that expects nothing, a line that is no frame after a
+//! `put`, since the program has no part in it there, and a file without a case.
 
 use crate::calls::call;
-use reference::{area_at, Answer, Frame, AREA, NO_FRAME, STREAMS};
+use reference::{area_at, frame, Answer, Frame, AREA, NO_FRAME, STREAMS};
 use std::fmt;
 use std::ops::Range;
 
@@ -25,7 +27,7 @@ pub struct Case {
 }
 
 pub struct Step {
-    /// The line that says it: its number, its text without the comment, the comment behind it.
+    /// The line that says it: its number, its text without the comment, the comment after it.
     pub line: usize,
     pub text: String,
     pub comment: Option<String>,
@@ -73,7 +75,7 @@ impl fmt::Display for Given {
 /// The cases that the text of a file says.
 pub fn cases(text: &str) -> Result<Vec<Case>, String> {
     let mut reading = Reading::default();
-    for (line, number) in text.split('\n').zip(1..) {
+    for (line, number) in text.split_terminator('\n').zip(1..) {
         reading.take(line, number).map_err(|why| format!("line {number}: {why}"))?;
     }
     reading.end()
@@ -82,12 +84,14 @@ pub fn cases(text: &str) -> Result<Vec<Case>, String> {
 #[derive(Default)]
 struct Reading {
     cases: Vec<Case>,
-    /// The last heading and its line, and whether no step has followed it yet.
-    heading: Option<(String, usize)>,
+    /// The headings and their lines, and whether no step has followed the last one yet.
+    headings: Vec<(String, usize)>,
     is_bare: bool,
     /// Whether the next step goes on with the last case.
     goes_on: bool,
     stream: u32,
+    /// The line that names this stream, until a step follows it.
+    bare_stream: Option<usize>,
     title: Option<String>,
 }
 
@@ -97,13 +101,14 @@ impl Reading {
             return self.head(heading, number);
         }
         let (said, comment) = match line.split_once("//") {
-            Some((said, comment)) => (said.trim_end(), Some(comment.trim().to_string())),
-            None => (line.trim_end(), None),
+            Some((said, comment)) => (said, Some(comment.trim().to_string())),
+            None => (line, None),
         };
+        let said = said.trim_end_matches(' ');
         match (said, said.split_once(' ')) {
             ("", _) if comment.is_some() => self.title = comment,
-            ("", _) => self.end_case(),
-            (_, Some(("stream", stream))) => self.stream = stream_number(stream)?,
+            ("", _) => self.end_case()?,
+            (_, Some(("stream", stream))) => self.go_to_stream(stream, number)?,
             _ => self.step(said, comment, number)?,
         }
         Ok(())
@@ -111,23 +116,50 @@ impl Reading {
 
     fn head(&mut self, heading: &str, number: usize) -> Result<(), String> {
         self.no_bare_heading()?;
-        match heading.trim() {
-            "" => return Err("a heading without a text".into()),
-            text => self.heading = Some((text.to_string(), number)),
+        self.end_case()?;
+        let heading = heading.trim();
+        if heading.is_empty() {
+            return Err("a heading without a text".into());
         }
+        if let Some((_, line)) = self.headings.iter().find(|(text, _)| text == heading) {
+            return Err(format!("the heading '{heading}' stands at line {line} already"));
+        }
+        self.headings.push((heading.to_string(), number));
         self.is_bare = true;
-        self.end_case();
         Ok(())
     }
 
-    fn end_case(&mut self) {
+    fn go_to_stream(&mut self, stream: &str, number: usize) -> Result<(), String> {
+        self.no_bare_stream()?;
+        self.stream = stream_number(stream)?;
+        self.bare_stream = Some(number);
+        Ok(())
+    }
+
+    fn end_case(&mut self) -> Result<(), String> {
+        self.no_bare_stream()?;
+        if let Some(case) = self.case() {
+            if case.steps.iter().all(|step| step.expected.is_none()) {
+                return Err(format!("'{}' expects nothing", case.name));
+            }
+        }
         self.goes_on = false;
         self.stream = 0;
         self.title = None;
+        Ok(())
+    }
+
+    /// The case with which the next step goes on.
+    fn case(&self) -> Option<&Case> {
+        self.cases.last().filter(|_| self.goes_on)
     }
 
     fn step(&mut self, said: &str, comment: Option<String>, line: usize) -> Result<(), String> {
         let (action, expected) = step(said, self.stream)?;
+        let is_no_frame = matches!(&action, Action::Line(text) if frame(text).is_none());
+        if is_no_frame && self.case().is_some_and(has_put) {
+            return Err("after a put nothing but the reference takes a line that is no frame".into());
+        }
         let step = Step {
             line,
             text: said.to_string(),
@@ -143,13 +175,13 @@ impl Reading {
                 steps: vec![step],
             }),
         }
-        (self.goes_on, self.is_bare) = (true, false);
+        (self.goes_on, self.is_bare, self.bare_stream) = (true, false, None);
         Ok(())
     }
 
     /// The heading's own case has its name; one after a blank line has its line beside it.
     fn name(&self, line: usize) -> String {
-        match &self.heading {
+        match self.headings.last() {
             Some((heading, _)) if self.is_bare => heading.clone(),
             Some((heading, _)) => format!("{heading}, from line {line}"),
             None => format!("from line {line}"),
@@ -157,19 +189,31 @@ impl Reading {
     }
 
     fn no_bare_heading(&self) -> Result<(), String> {
-        match &self.heading {
+        match self.headings.last() {
             Some((heading, number)) if self.is_bare => Err(format!("no line follows the heading '{heading}' of line {number}")),
             _ => Ok(()),
         }
     }
 
-    fn end(self) -> Result<Vec<Case>, String> {
+    fn no_bare_stream(&self) -> Result<(), String> {
+        match self.bare_stream {
+            Some(number) => Err(format!("no line follows the stream of line {number}")),
+            None => Ok(()),
+        }
+    }
+
+    fn end(mut self) -> Result<Vec<Case>, String> {
         self.no_bare_heading()?;
+        self.end_case()?;
         if self.cases.is_empty() {
             return Err("no case".into());
         }
         Ok(self.cases)
     }
+}
+
+pub fn has_put(case: &Case) -> bool {
+    case.steps.iter().any(|step| matches!(step.action, Action::Put(..)))
 }
 
 /// What a line does, and what it gives.
@@ -180,18 +224,23 @@ fn step(said: &str, stream: u32) -> Result<(Action, Option<Given>), String> {
     let Some((does, gives)) = said.split_once(" -> ") else {
         return Err("no ' -> '".into());
     };
+    let gives = gives.trim_start_matches(' ');
     let (name, rest) = does.split_once(' ').unwrap_or((does, ""));
     let (action, expected) = match name {
         "frame" => (Action::Line(rest.replace("\\r", "\r").into_bytes()), printed(gives)?),
         "bytes" => area_bytes(rest, gives, stream)?,
-        "sound" => (Action::Sound(opened(stream)?), soundness(gives)?),
+        "sound" if words(rest).next().is_some() => return Err("sound takes no argument".into()),
+        "sound" => (Action::Sound(with_area(stream)?), soundness(gives)?),
         _ => (Action::Call(call(name, stream, &numbers(rest)?)?), answer(gives)?),
     };
     Ok((action, Some(expected)))
 }
 
 fn put_bytes(put: &str, stream: u32) -> Result<Action, String> {
-    let (at, pairs) = put.split_once(' ').ok_or("put takes a place and bytes")?;
+    let (at, pairs) = put
+        .trim_start_matches(' ')
+        .split_once(' ')
+        .ok_or("put takes a place and bytes")?;
     let bytes = byte_pairs(pairs)?;
     let place = in_area(number(at)?, bytes.len(), stream)?;
     Ok(Action::Put(place.start, bytes))
@@ -239,7 +288,7 @@ pub fn answer_in(line: &str) -> Option<Answer> {
 
 /// So many bytes of the store, from this one of the stream's area on.
 fn in_area(at: u32, length: usize, stream: u32) -> Result<Range<usize>, String> {
-    let area = area_at(opened(stream)?);
+    let area = area_at(with_area(stream)?);
     let end = at as usize + length;
     if end > AREA {
         return Err(format!("an area has {AREA} bytes, not {end}"));
@@ -248,7 +297,7 @@ fn in_area(at: u32, length: usize, stream: u32) -> Result<Range<usize>, String> 
 }
 
 /// A stream that has an area.
-fn opened(stream: u32) -> Result<u32, String> {
+fn with_area(stream: u32) -> Result<u32, String> {
     if stream < STREAMS {
         Ok(stream)
     } else {
@@ -257,29 +306,34 @@ fn opened(stream: u32) -> Result<u32, String> {
 }
 
 /// A stream that a frame can hold.
-fn stream_number(word: &str) -> Result<u32, String> {
-    match number(word)? {
-        stream @ ..=255 => Ok(stream),
-        stream => Err(format!("a frame holds no stream {stream}")),
+fn stream_number(stream: &str) -> Result<u32, String> {
+    match numbers(stream)?[..] {
+        [stream @ ..=255] => Ok(stream),
+        [stream] => Err(format!("a frame holds no stream {stream}")),
+        _ => Err("stream takes one number".into()),
     }
 }
 
-fn numbers(words: &str) -> Result<Vec<u32>, String> {
-    words.split_whitespace().map(number).collect()
+/// What stands between plain blanks. A tab or another kind of blank is a character like any other.
+fn words(text: &str) -> impl Iterator<Item = &str> {
+    text.split(' ').filter(|word| !word.is_empty())
+}
+
+fn numbers(text: &str) -> Result<Vec<u32>, String> {
+    words(text).map(number).collect()
 }
 
 fn number(word: &str) -> Result<u32, String> {
-    let is_decimal = word.bytes().all(|byte| byte.is_ascii_digit());
-    let number = word.parse().ok().filter(|_| is_decimal);
-    number.ok_or(format!("'{word}' is no decimal number of 32 bits"))
+    let number = word.parse().ok().filter(|number: &u32| number.to_string() == word);
+    number.ok_or(format!("'{}' is no plain decimal number of 32 bits", word.escape_debug()))
 }
 
-fn byte_pairs(words: &str) -> Result<Vec<u8>, String> {
-    words.split_whitespace().map(byte_pair).collect()
+fn byte_pairs(text: &str) -> Result<Vec<u8>, String> {
+    words(text).map(byte_pair).collect()
 }
 
 fn byte_pair(word: &str) -> Result<u8, String> {
     let is_pair = word.len() == 2 && word.bytes().all(|byte| matches!(byte, b'0'..=b'9' | b'a'..=b'f'));
     let byte = u8::from_str_radix(word, 16).ok().filter(|_| is_pair);
-    byte.ok_or(format!("'{word}' is no byte of two digits"))
+    byte.ok_or(format!("'{}' is no byte of two digits", word.escape_debug()))
 }

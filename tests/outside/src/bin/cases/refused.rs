@@ -1,16 +1,19 @@
-//! That the runner can fail: the files of tests/cases_refused, one for each kind of fault, and a folder without a file.
+//! That the runner can fail: the files of tests/cases_refused, one for each kind of fault, a folder without a file, and a manual's day
+//! of two cases.
 
+use crate::notation::cases;
 use crate::running::{files, name, run_file, Tally};
-use crate::{counted_of, place};
+use crate::{counted_of, manual, place};
 use std::fs;
 use std::path::Path;
 
-/// How a file's first line begins; behind it stands what the runner has to say of the file.
+/// How a file's first line begins; after it stands what the runner has to say of the file.
 const REFUSED: &str = "// refused: ";
 
 pub fn every_file() -> Result<(), String> {
     let files = files(&place("tests/cases_refused"))?;
-    counted_of("refused", files.iter().map(|file| refused(file)).chain([empty_folder()]))
+    let others = [empty_folder(), day_of_two_cases()];
+    counted_of("refused", files.iter().map(|file| refused(file)).chain(others))
 }
 
 /// The one thing that the runner says of the file is what its first line says.
@@ -34,5 +37,14 @@ fn empty_folder() -> Result<(), String> {
     match files(&folder) {
         Err(why) if why.ends_with("no file") => Ok(()),
         _ => Err("a folder without a file was not refused".into()),
+    }
+}
+
+fn day_of_two_cases() -> Result<(), String> {
+    let read = "read -> 6 0 0 0 // Read, before anything is opened\n";
+    manual::tables(&cases(read)?)?;
+    match manual::tables(&cases(&format!("{read}\n{read}"))?) {
+        Err(why) if why.starts_with("a day is one case") => Ok(()),
+        _ => Err("a manual's day of two cases was not refused".into()),
     }
 }

@@ -1,6 +1,6 @@
 //! The stored run of the program, crates/frames/stdin and stdout, made of cases of tests/cases/paper-01.txt.
 
-use crate::notation::{Action, Case, Given, Step};
+use crate::notation::{has_put, Action, Case, Given, Step};
 use crate::{place, running};
 use outside::at;
 use reference::{answer_line, line, NO_FRAME};
@@ -12,8 +12,8 @@ const OUTPUT: &str = "crates/frames/stdout";
 
 /// The run begins with this case, by itself.
 const FIRST: &str = "Hexadecimal frames: the whole case";
-/// Then come these together, a line of each in turn: the first beside lines that are no frame, those that keep to one stream on
-/// streams 1 to 14, and the last, which names its streams, as it is.
+/// Then come these together, a line of each in turn: the first is lines that are no frame; the cases on one stream go to streams 1 to
+/// 14; the last names its own streams.
 const IN_TURN: [&str; 16] = [
     "Hexadecimal frames: lines that are no frame",
     "Table of proved cases: credit, A = 10,000",
@@ -21,7 +21,7 @@ const IN_TURN: [&str; 16] = [
     "Table of proved cases: VL-7",
     "Table of proved cases: continuous, i 116, g 48",
     "Credit lots: a wrong lot without credit is heard whole, with credit it is returned",
-    "Credit lots: with option 1 a wrong lot is heard whole also with credit, and the credit is lost",
+    "Credit lots: with option 1 a wrong lot is heard whole even with credit, and the credit is lost",
     "Level lots: what ends reduced",
     "Level lots: tightened, normal after five accepted in a row, reduced after ten more",
     "Level lots: ten judged on tightened, discontinued",
@@ -85,16 +85,21 @@ fn exchanges() -> Result<Vec<Exchange>, String> {
 }
 
 fn named<'a>(cases: &'a [Case], name: &str) -> Result<&'a Case, String> {
-    cases
-        .iter()
-        .find(|case| case.name == name)
-        .ok_or(format!("{CASES} has no case '{name}'"))
+    match cases.iter().find(|case| case.name == name) {
+        Some(case) if has_put(case) => Err(format!("{CASES}: '{name}' has a put, in which the program has no part")),
+        Some(case) => Ok(case),
+        None => Err(format!("{CASES} has no case '{name}'")),
+    }
 }
 
-/// Whether it is of calls, all on stream 0, and so can be made on another stream as well.
+/// Whether its calls are all on stream 0, and so can be made on another stream as well. A line that it gives to the program stays as
+/// it is; its `bytes` and `sound` lines are left out of the run.
 fn keeps_to_stream_0(case: &Case) -> bool {
-    let on_stream_0 = |step: &Step| matches!(&step.action, Action::Call(frame) if frame.stream == 0);
-    case.steps.iter().all(on_stream_0)
+    case.steps.iter().all(|step| match &step.action {
+        Action::Call(frame) => frame.stream == 0,
+        Action::Line(_) => false,
+        Action::Bytes(_) | Action::Sound(_) | Action::Put(..) => true,
+    })
 }
 
 /// The lines of a case, on this stream where it keeps to one.

@@ -96,7 +96,7 @@ fn is_sound(answer: &Answer) -> bool {
 }
 
 /// A call is a line of numbers; the number 0, a byte's place and its value write that byte. Each call is answered by a line of
-/// numbers, and behind the last line comes the store.
+/// numbers, and after the last line comes the store.
 fn through_c(steps: &[Step]) -> Result<Taken, String> {
     let (mut input, mut asked) = (Vec::new(), Vec::new());
     for (k, step) in steps.iter().enumerate() {
