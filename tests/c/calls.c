@@ -1,7 +1,7 @@
 /*
  * Makes calls by include/listening.h on one store, for a case file's runner. A line of standard input holds a call as listening_list
  * has it: its number, the stream, the arguments. Its answer is printed as a line of numbers. The number 0 with a place and a value
- * instead writes that byte of the store and prints nothing. Behind the last answer the store's bytes are printed as they are.
+ * instead writes that byte of the store and prints nothing. After the last answer the store's bytes are printed as they are.
  */
 #include "listening.h"
 
