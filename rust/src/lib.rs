@@ -1,17 +1,34 @@
 //! The listening controller: sixteen streams in one store of bytes, for Rust.
 //!
-//! Each function is the proved call of the same name; `include/listening.h` says of each what it takes and gives and how it is
-//! refused. A store is 41,728 bytes, all zero when fresh. Bad input of any kind, a store of another length included, gets a refusal
-//! number and leaves the store as it was: no call panics, and none has a duty for its caller.
+//! Each function is the proved call of the same name, and [`newest`] is two of them, `listening_newest` and `listening_newest_part`;
+//! `include/listening.h` says of each what it takes and gives and how it is refused. A store is 58,112 bytes, all zero when fresh. Bad
+//! input of any kind, a store of another length included, gets a refusal number and leaves the store as it was: no call panics, and
+//! none has a duty for its caller.
+//!
+//! ```
+//! let mut store = vec![0; listening::STORE_LENGTH];
+//! listening::open(&mut store, 0, 1, 0, 15_000, 0);
+//! let asked = listening::ask(&store, 0, 201);
+//! // label 1, 201 detections, as many heard as were asked, none wrong; heard on recording 4711 from its second 90 on
+//! let lot = listening::lot(&mut store, 0, 1, 201, asked.first, 0, 0, 4711, 90);
+//! assert_eq!((lot.refusal, lot.first, lot.second, lot.third), (0, 1, 201, 201));
+//!
+//! let (answer, records) = listening::newest(&store, 0, 1);
+//! assert_eq!((answer.refusal, answer.first), (0, 1));
+//! assert_eq!(records[20..24], 4711_u32.to_le_bytes());
+//! assert_eq!(records[24..28], 90_u32.to_le_bytes());
+//! ```
 
 #![warn(missing_docs)]
 
 /// So many streams: 0 to 15.
 pub const STREAMS: u32 = 16;
 /// The length of a store.
-pub const STORE_LENGTH: usize = 41_728;
-/// So many numbers hold a call of [`list`]: its number, its stream, five arguments.
-pub const CALL_LENGTH: usize = 7;
+pub const STORE_LENGTH: usize = 58_112;
+/// The length of a record of [`newest`].
+pub const RECORD_LENGTH: usize = 28;
+/// So many numbers hold a call of [`list`]: its number, its stream, seven arguments.
+pub const CALL_LENGTH: usize = 9;
 /// So many numbers hold an answer of [`list`]: its refusal, three numbers.
 pub const ANSWER_LENGTH: usize = 4;
 
@@ -33,6 +50,12 @@ pub struct Answer {
 mod c {
     use super::Answer;
 
+    #[repr(C)]
+    pub struct Part {
+        pub offset: usize,
+        pub length: usize,
+    }
+
     extern "C" {
         pub fn listening_open(store: *mut u8, length: usize, stream: u32, kind: u32, option: u32, a: u32, b: u32) -> Answer;
         pub fn listening_lot(
@@ -44,13 +67,33 @@ mod c {
             sample: u32,
             wrong: u32,
             wrong_in_all: u32,
+            recording: u32,
+            second: u32,
         ) -> Answer;
-        pub fn listening_run(store: *mut u8, length: usize, stream: u32, right: u32, wrong: u32) -> Answer;
-        pub fn listening_block(store: *mut u8, length: usize, stream: u32, heard: u32, wrong: u32) -> Answer;
+        pub fn listening_run(
+            store: *mut u8,
+            length: usize,
+            stream: u32,
+            right: u32,
+            wrong: u32,
+            recording: u32,
+            second: u32,
+        ) -> Answer;
+        pub fn listening_block(
+            store: *mut u8,
+            length: usize,
+            stream: u32,
+            heard: u32,
+            wrong: u32,
+            recording: u32,
+            second: u32,
+        ) -> Answer;
         pub fn listening_stop(store: *mut u8, length: usize, stream: u32, why: u32, days: u32) -> Answer;
         pub fn listening_back(store: *mut u8, length: usize, stream: u32) -> Answer;
         pub fn listening_ask(store: *const u8, length: usize, stream: u32, size: u32) -> Answer;
         pub fn listening_read(store: *const u8, length: usize, stream: u32) -> Answer;
+        pub fn listening_newest(store: *const u8, length: usize, stream: u32, count: u32) -> Answer;
+        pub fn listening_newest_part(store: *const u8, length: usize, stream: u32, count: u32) -> Part;
         pub fn listening_list(
             store: *mut u8,
             length: usize,
@@ -72,10 +115,22 @@ pub fn open(store: &mut [u8], stream: u32, kind: u32, option: u32, a: u32, b: u3
     unsafe { c::listening_open(store.as_mut_ptr(), store.len(), stream, kind, option, a, b) }
 }
 
-/// Enters a lot (`size` N, `sample` n, `wrong` d, `wrong_in_all` D). Gives the verdict (1 accepted, 2 all heard, 3 returned or
-/// withheld), what is accepted, and the credit or the level (0 reduced, 1 normal, 2 tightened, 3 discontinued).
+/// Enters a lot (`size` N, `sample` n, `wrong` d, `wrong_in_all` D), heard on a recording of this number, not 0, from this second of it
+/// on. Gives the verdict (1 accepted, 2 all heard, 3 returned or withheld), what is accepted, and the credit or the level (0 reduced, 1
+/// normal, 2 tightened, 3 discontinued).
 #[inline]
-pub fn lot(store: &mut [u8], stream: u32, label: u32, size: u32, sample: u32, wrong: u32, wrong_in_all: u32) -> Answer {
+#[allow(clippy::too_many_arguments)] // they are the call's
+pub fn lot(
+    store: &mut [u8],
+    stream: u32,
+    label: u32,
+    size: u32,
+    sample: u32,
+    wrong: u32,
+    wrong_in_all: u32,
+    recording: u32,
+    second: u32,
+) -> Answer {
     unsafe {
         c::listening_lot(
             store.as_mut_ptr(),
@@ -86,22 +141,24 @@ pub fn lot(store: &mut [u8], stream: u32, label: u32, size: u32, sample: u32, wr
             sample,
             wrong,
             wrong_in_all,
+            recording,
+            second,
         )
     }
 }
 
-/// Enters a run in screening: `right` detections, then a wrong one where `wrong` is 1. Gives what is accepted, and the phase (0
-/// screening, 1 sampling).
+/// Enters a run in screening, with its recording: `right` detections, then a wrong one where `wrong` is 1. Gives what is accepted, and
+/// the phase (0 screening, 1 sampling).
 #[inline]
-pub fn run(store: &mut [u8], stream: u32, right: u32, wrong: u32) -> Answer {
-    unsafe { c::listening_run(store.as_mut_ptr(), store.len(), stream, right, wrong) }
+pub fn run(store: &mut [u8], stream: u32, right: u32, wrong: u32, recording: u32, second: u32) -> Answer {
+    unsafe { c::listening_run(store.as_mut_ptr(), store.len(), stream, right, wrong, recording, second) }
 }
 
-/// Enters a block in sampling, of which the detection at place `heard` was heard. Gives what is accepted, how many to hear back, and
-/// the phase.
+/// Enters a block in sampling, with its recording, of which the detection at place `heard` was heard. Gives what is accepted, how many
+/// to hear back, and the phase.
 #[inline]
-pub fn block(store: &mut [u8], stream: u32, heard: u32, wrong: u32) -> Answer {
-    unsafe { c::listening_block(store.as_mut_ptr(), store.len(), stream, heard, wrong) }
+pub fn block(store: &mut [u8], stream: u32, heard: u32, wrong: u32, recording: u32, second: u32) -> Answer {
+    unsafe { c::listening_block(store.as_mut_ptr(), store.len(), stream, heard, wrong, recording, second) }
 }
 
 /// Enters a stop: `why` 1 a pause of so many days, 2 the set-up changed.
@@ -129,7 +186,22 @@ pub fn read(store: &[u8], stream: u32) -> Answer {
     unsafe { c::listening_read(store.as_ptr(), store.len(), stream) }
 }
 
-/// Makes a list of calls, seven numbers each, and writes the answers, four numbers each. False, and nothing made or written, where the
+/// Gives how many of the newest standing records come back, as many as `count` says or all where fewer stand, and beside its answer
+/// these records: they are a part of the store, [`RECORD_LENGTH`] bytes each, the oldest of them first, and end with the last standing
+/// record. Where the call is refused the part is empty. `include/listening.h` has the bytes of a record.
+#[inline]
+pub fn newest(store: &[u8], stream: u32, count: u32) -> (Answer, &[u8]) {
+    let (answer, part) = unsafe {
+        (
+            c::listening_newest(store.as_ptr(), store.len(), stream, count),
+            c::listening_newest_part(store.as_ptr(), store.len(), stream, count),
+        )
+    };
+    // the part is proved to lie in the store
+    (answer, &store[part.offset..part.offset + part.length])
+}
+
+/// Makes a list of calls, nine numbers each, and writes the answers, four numbers each. False, and nothing made or written, where the
 /// numbers are not whole calls, a call does not exist or has an argument too many, or the room for answers is not exactly that of the
 /// calls. A refused call is no such case.
 #[inline]

@@ -1,13 +1,16 @@
 /*
- * Makes calls by include/listening.h on one store, for a case file's runner. A line of standard input holds a call as listening_list
- * has it: its number, the stream, the arguments. Its answer is printed as a line of numbers. The number 0 with a place and a value
- * instead writes that byte of the store and prints nothing. After the last answer the store's bytes are printed as they are.
+ * Makes calls by include/listening.h on one store, for a case file's runner. A line of standard input is a word and numbers:
+ *   call NUMBER STREAM ARGUMENTS  a call, as listening_list has it; its answer is printed as a line of numbers
+ *   part STREAM COUNT             the newest records; printed are the part's offset, a colon, and its bytes as pairs of digits
+ *   put PLACE VALUE               writes that byte of the store and prints nothing
+ * After the last line the store's bytes are printed as they are.
  */
 #include "listening.h"
 
 #include <inttypes.h>
 #include <stdio.h>
 #include <stdlib.h>
+#include <string.h>
 
 static uint8_t store[LISTENING_STORE_LENGTH];
 
@@ -42,11 +45,11 @@ static listening_answer make(uint32_t call, uint32_t stream, const uint32_t *a)
     case 1:
         return listening_open(store, sizeof store, stream, a[0], a[1], a[2], a[3]);
     case 2:
-        return listening_lot(store, sizeof store, stream, a[0], a[1], a[2], a[3], a[4]);
+        return listening_lot(store, sizeof store, stream, a[0], a[1], a[2], a[3], a[4], a[5], a[6]);
     case 3:
-        return listening_run(store, sizeof store, stream, a[0], a[1]);
+        return listening_run(store, sizeof store, stream, a[0], a[1], a[5], a[6]);
     case 4:
-        return listening_block(store, sizeof store, stream, a[0], a[1]);
+        return listening_block(store, sizeof store, stream, a[0], a[1], a[5], a[6]);
     case 5:
         return listening_stop(store, sizeof store, stream, a[0], a[1]);
     case 6:
@@ -55,14 +58,17 @@ static listening_answer make(uint32_t call, uint32_t stream, const uint32_t *a)
         return listening_ask(store, sizeof store, stream, a[0]);
     case 8:
         return listening_read(store, sizeof store, stream);
+    case 9:
+        return listening_newest(store, sizeof store, stream, a[0]);
     default:
         stop_reading("no such call");
         abort();
     }
 }
 
-static void make_call(uint32_t call)
+static void make_call(void)
 {
+    uint32_t call = number();
     uint32_t stream = number();
     uint32_t arguments[LISTENING_CALL_LENGTH - 2];
     for (size_t k = 0; k < sizeof arguments / sizeof arguments[0]; k++) {
@@ -72,14 +78,31 @@ static void make_call(uint32_t call)
     printf("%" PRIu32 " %" PRIu32 " %" PRIu32 " %" PRIu32 "\n", is.refusal, is.first, is.second, is.third);
 }
 
+static void print_part(void)
+{
+    uint32_t stream = number();
+    uint32_t count = number();
+    listening_part part = listening_newest_part(store, sizeof store, stream, count);
+    const uint8_t *records = store + part.offset;
+    printf("%zu:", part.offset);
+    for (size_t k = 0; k < part.length; k++) {
+        printf(" %02x", (unsigned)records[k]);
+    }
+    printf("\n");
+}
+
 int main(void)
 {
-    uint32_t call;
-    while (scanf("%" SCNu32, &call) == 1) {
-        if (call == 0) {
+    char word[5];
+    while (scanf("%4s", word) == 1) {
+        if (strcmp(word, "call") == 0) {
+            make_call();
+        } else if (strcmp(word, "part") == 0) {
+            print_part();
+        } else if (strcmp(word, "put") == 0) {
             put_byte();
         } else {
-            make_call(call);
+            stop_reading("no such word");
         }
     }
     return fwrite(store, 1, sizeof store, stdout) == sizeof store ? 0 : 1;

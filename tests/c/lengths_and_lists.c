@@ -1,7 +1,7 @@
 /*
  * What C alone shows of include/listening.h, beside the case files, which tests/c/calls.c runs: lengths that are not the store's, streams
- * that no frame can hold, the bytes around the store, a damaged byte, and lists of calls. After each refused call, and after Ask and
- * Read, every byte must be as before. Prints each check that fails; the last line is the count.
+ * that no frame can hold, the bytes around the store, the newest records in place, damaged bytes, and lists of calls. After each refused
+ * call, and after Ask, Read and Newest, every byte must be as before. Prints each check that fails; the last line is the count.
  */
 #include "listening.h"
 
@@ -10,6 +10,8 @@
 
 #define AREA (LISTENING_STORE_LENGTH / LISTENING_STREAMS)
 #define LENGTH LISTENING_STORE_LENGTH
+#define RECORD LISTENING_RECORD_LENGTH
+#define HEADER (AREA - 128 * RECORD)
 #define COUNT(array) (sizeof(array) / sizeof(array)[0])
 
 /* One byte more than a store on either side: a length one too large is of memory that is ours, and nothing may be written there. */
@@ -56,37 +58,65 @@ static void refused(const char *what, listening_answer is, uint32_t refusal)
     check(what, is.refusal == refusal && is.first == 0 && is.second == 0 && is.third == 0 && is_kept());
 }
 
+/* The place and the length of the newest records. */
+static void lies(const char *what, listening_part is, size_t offset, size_t length)
+{
+    check(what, is.offset == offset && is.length == length && is_kept());
+}
+
 /* Each function once, on two streams whose areas are the first and the last. */
 static void each_function(void)
 {
     enters("open", listening_open(store, LENGTH, 0, 1, 0, 15000, 0));
     looks("ask", listening_ask(store, LENGTH, 0, 3), 3);
-    enters("lot", listening_lot(store, LENGTH, 0, 1, 3, 3, 0, 0));
+    enters("lot", listening_lot(store, LENGTH, 0, 1, 3, 3, 0, 0, 7, 60));
     enters("stop", listening_stop(store, LENGTH, 0, 1, 2));
     looks("read", listening_read(store, LENGTH, 0), 2);
     enters("back", listening_back(store, LENGTH, 0));
     enters("open the last stream", listening_open(store, LENGTH, 15, 3, 0, 10, 4));
-    enters("run", listening_run(store, LENGTH, 15, 10, 0));
-    enters("block", listening_block(store, LENGTH, 15, 1, 0));
+    enters("run", listening_run(store, LENGTH, 15, 10, 0, 8, 0));
+    enters("block", listening_block(store, LENGTH, 15, 1, 0, UINT32_MAX, 0x01020304));
     looks("read the last stream", listening_read(store, LENGTH, 15), 2);
+    looks("newest", listening_newest(store, LENGTH, 0, UINT32_MAX), 1);
+    lies("its part", listening_newest_part(store, LENGTH, 0, UINT32_MAX), HEADER, RECORD);
 }
 
-/* The eight functions, each refused by this number. */
+/* A run and a block stand on the last stream, whose records are had without a copy. */
+static void newest_records(void)
+{
+    const size_t records = 15 * AREA + HEADER;
+    const uint8_t block[RECORD] = {3, 0, 0, 0, 1, [20] = 0xff, 0xff, 0xff, 0xff, [24] = 0x04, 0x03, 0x02, 0x01};
+    looks("the newest none", listening_newest(store, LENGTH, 15, 0), 0);
+    lies("end behind the last", listening_newest_part(store, LENGTH, 15, 0), records + 2 * RECORD, 0);
+    looks("the newest one", listening_newest(store, LENGTH, 15, 1), 1);
+    lies("is the last", listening_newest_part(store, LENGTH, 15, 1), records + RECORD, RECORD);
+    check("it is the block", memcmp(store + listening_newest_part(store, LENGTH, 15, 1).offset, block, sizeof block) == 0);
+    looks("the newest two", listening_newest(store, LENGTH, 15, 2), 2);
+    lies("are both", listening_newest_part(store, LENGTH, 15, 2), records, 2 * RECORD);
+    looks("the newest three", listening_newest(store, LENGTH, 15, 3), 2);
+    lies("are two", listening_newest_part(store, LENGTH, 15, 3), records, 2 * RECORD);
+    lies("a count is not cut to a byte", listening_newest_part(store, LENGTH, 15, 256 + 1), records, 2 * RECORD);
+}
+
+/* The nine functions, each refused by this number, and no part of the store. */
 static void all_refused(size_t length, uint32_t stream, uint32_t refusal)
 {
     refused("open", listening_open(store, length, stream, 1, 0, 15000, 0), refusal);
-    refused("lot", listening_lot(store, length, stream, 2, 3, 3, 0, 0), refusal);
-    refused("run", listening_run(store, length, stream, 1, 0), refusal);
-    refused("block", listening_block(store, length, stream, 1, 0), refusal);
+    refused("lot", listening_lot(store, length, stream, 2, 3, 3, 0, 0, 1, 0), refusal);
+    refused("run", listening_run(store, length, stream, 1, 0, 1, 0), refusal);
+    refused("block", listening_block(store, length, stream, 1, 0, 1, 0), refusal);
     refused("stop", listening_stop(store, length, stream, 1, 1), refusal);
     refused("back", listening_back(store, length, stream), refusal);
     refused("ask", listening_ask(store, length, stream, 3), refusal);
     refused("read", listening_read(store, length, stream), refusal);
+    refused("newest", listening_newest(store, length, stream, 1), refusal);
+    lies("no part", listening_newest_part(store, length, stream, 1), 0, 0);
 }
 
 static void wrong_length_or_stream(void)
 {
-    const size_t lengths[] = {0, 1, AREA, LENGTH - 1, LENGTH + 1};
+    /* 41,728: a store before entries had a recording */
+    const size_t lengths[] = {0, 1, AREA, 41728, LENGTH - 1, LENGTH + 1};
     for (size_t k = 0; k < COUNT(lengths); k++) {
         all_refused(lengths[k], 0, 1);
         all_refused(lengths[k], LISTENING_STREAMS, 1);
@@ -97,32 +127,43 @@ static void wrong_length_or_stream(void)
     }
 }
 
-/* The first byte of the last area's tail, which is 3 after a block of four whose first was heard. */
-static void damaged_byte(void)
+/* This byte of the last area with another value, which no calls could have left there. */
+static void damaged_byte(const char *what, size_t at, uint8_t value, uint8_t damaged)
 {
-    uint8_t *tail = &store[15 * AREA + 30];
-    check("the tail's byte", *tail == 3);
-    *tail = 2;
+    uint8_t *byte = &store[15 * AREA + at];
+    check(what, *byte == value);
+    *byte = damaged;
     keep();
     all_refused(LENGTH, 15, 3);
     looks("another stream is not concerned", listening_read(store, LENGTH, 0), 1);
-    *tail = 3;
+    *byte = value;
     keep();
     looks("mended", listening_read(store, LENGTH, 15), 2);
 }
 
-/* A list of three calls on stream 0, where one lot of three stands; made only where the list and the room for answers are whole. */
+static void damaged_bytes(void)
+{
+    damaged_byte("the tail, after a block of four whose first was heard", 30, 3, 2);
+    damaged_byte("the run's recording, 8", HEADER + 20, 8, 0);
+    damaged_byte("the recording behind the last record", HEADER + 2 * RECORD + 20, 0, 1);
+}
+
+/* A list of five calls on stream 0, where one lot of three stands; made only where the list and the room for answers are whole. */
 static void lists(void)
 {
-    uint32_t calls[3 * LISTENING_CALL_LENGTH] = {
-        [0] = 2, 0, 2, 3, 3, 0, 0, /* a lot */
-        [LISTENING_CALL_LENGTH] = 6,
-        [2 * LISTENING_CALL_LENGTH] = 8,
+    uint32_t calls[5 * LISTENING_CALL_LENGTH] = {
+        [0] = 2, 0, 2, 3, 3, 0, 0, 9, 30,                         /* a lot, on recording 9 from second 30 on */
+        [LISTENING_CALL_LENGTH] = 2, 0, 3, 3, 3, 0, 0, 0, 30,     /* a lot on no recording */
+        [2 * LISTENING_CALL_LENGTH] = 9, 0, 5,                    /* the newest five */
+        [3 * LISTENING_CALL_LENGTH] = 6,                          /* a take-back */
+        [4 * LISTENING_CALL_LENGTH] = 8,                          /* a Read */
     };
-    const uint32_t expected[3 * LISTENING_ANSWER_LENGTH] = {
+    const uint32_t expected[5 * LISTENING_ANSWER_LENGTH] = {
         [1] = 1, 3, 6, /* accepted, the credit is 6 */
-        [LISTENING_ANSWER_LENGTH + 1] = 1,
-        [2 * LISTENING_ANSWER_LENGTH + 1] = 1, 3, 3,
+        [LISTENING_ANSWER_LENGTH] = 17,
+        [2 * LISTENING_ANSWER_LENGTH + 1] = 2,
+        [3 * LISTENING_ANSWER_LENGTH + 1] = 1,
+        [4 * LISTENING_ANSWER_LENGTH + 1] = 1, 3, 3,
     };
     const size_t calls_length = COUNT(calls);
     const size_t answers_length = COUNT(expected);
@@ -136,8 +177,13 @@ static void lists(void)
     calls[calls_length - 1] = 1;
     check("an argument that Read does not have", !listening_list(store, LENGTH, calls, calls_length, answers, answers_length));
     calls[calls_length - 1] = 0;
-    calls[0] = 0;
-    check("no call 0", !listening_list(store, LENGTH, calls, calls_length, answers, answers_length));
+    const uint32_t no_calls[] = {0, 10, 256 + 2};
+    for (size_t k = 0; k < COUNT(no_calls); k++) {
+        calls[0] = no_calls[k];
+        check("no such call", !listening_list(store, LENGTH, calls, calls_length, answers, answers_length));
+    }
+    calls[0] = 5; /* a stop has no recording, nor numbers before it */
+    check("a stop with the arguments of a lot", !listening_list(store, LENGTH, calls, calls_length, answers, answers_length));
     calls[0] = 2;
     check("nothing was made", is_kept());
     check("nothing was answered", memcmp(answers, before, sizeof answers) == 0);
@@ -166,8 +212,9 @@ static void untouched(void)
 int main(void)
 {
     each_function();
+    newest_records();
     wrong_length_or_stream();
-    damaged_byte();
+    damaged_bytes();
     lists();
     untouched();
     printf("c: %d passed, %d failed\n", passed, failed);

@@ -1,5 +1,5 @@
 -- The answers of the code on an area, each as the outcome of the call. Assumes nothing.
-use Prim.Native.Nat.{ℕ, suc, _+_, _-_, _*_, _≤_, _<_}
+use Prim.Native.Nat.{ℕ, suc, _+_, _-_, _*_, _≤_, _<_, min}
 use mathlib.Core.Path.{_≡_, refl, sym, ap, _∙_}
 use mathlib.Core.Bool.{Bool, false}
 use mathlib.Core.List.{List, [], _∷_, append-assoc}
@@ -15,8 +15,9 @@ use Rattle.model.specs.declared.Plan.{Plan}
 use Rattle.model.specs.declared.Entry.{Entry}
 use Rattle.model.specs.declared.Entry.the-variants.{Lot, Run, Block, Stop}
 use Rattle.model.specs.declared.Call.{Call}
-use Rattle.model.specs.declared.Call.the-variants.{Open, Enter, Back, Ask, Read}
+use Rattle.model.specs.declared.Call.the-variants.{Open, Enter, Back, Ask, Read, Newest}
 use Rattle.model.specs.declared.Figures.{Figures}
+use Rattle.model.specs.declared.Recording.{Recording}
 use Rattle.model.specs.declared.Answer.{Answer}
 use Rattle.model.specs.Sizes.{recordLength, mostRecords}
 use Rattle.records.specs.Records.{recordAt, LevelFits}
@@ -35,13 +36,14 @@ use Rattle.model.specs.Calls.{
   lotFigure,
   readFigure,
   newestKind,
+  newestOf,
   answerOf,
   withoutNewest,
   changed,
   sizeInRange,
 }
 use Rattle.model.specs.Area.{zeros, headerOf, recordsOf, areaOf, holds, reading, AreaOutcome, onArea}
-use Rattle.model.proofs.Allowed.{room-for, passed}
+use Rattle.model.proofs.Allowed.{room-for, passed, passed-all}
 use Rattle.model.proofs.FigureBounds.{lot-size-range, stepped-within}
 use Rattle.model.proofs.AreaReading.{area-of-reading, part-record, records-in}
 use Rattle.model.proofs.Keeping.{accepted-station, accepted-answer, valid-opens}
@@ -112,26 +114,27 @@ module _ {area : List ℕ} {s : Standing} {es : List Entry} (at : OpenedAt 0 are
       (left
       ∙ rw (stepped-on, at .brought, at .counted, read-area at)
       (entered-area (s .plan) e es
-      (room-for (s .plan) (figuresOf (s .plan) es) (length es) e (rw (at .brought, at .counted) at (sym same ∙ none)))))
+      (room-for (s .plan) (figuresOf (s .plan) es) (length es) e
+      (rw (at .brought, at .counted) at (passed-all (s .plan) (s .figures) (s .count) e (sym same ∙ none) .allowed)))))
 
   -- and what each kind gives
-  pub lot-answer : (label N n d D : ℕ) {g : Figures} {r : Answer} → g ≡ stepped (s .plan) (Lot label N n d D) (s .figures)
+  pub lot-answer : (label N n d D : ℕ) (rec : Recording) {g : Figures} {r : Answer} → g ≡ stepped (s .plan) (Lot label N n d D rec) (s .figures)
       → r ≡ gives (verdictOn (s .plan) (s .figures) d) (acceptedOf (verdictOn (s .plan) (s .figures) d) N D) (lotFigure (s .plan) g)
-      → r ≡ entryAnswer (s .plan) (s .figures) (Lot label N n d D)
+      → r ≡ entryAnswer (s .plan) (s .figures) (Lot label N n d D rec)
   unfolding entryAnswer acceptedBy
-  lot-answer label N n d D on given = given ∙ rw on refl
+  lot-answer label N n d D rec on given = given ∙ rw on refl
 
-  pub run-answer : (h w : ℕ) {g : Figures} {r : Answer} → g ≡ stepped (s .plan) (Run h w) (s .figures)
-      → r ≡ gives h (g .continuous .phase) 0 → r ≡ entryAnswer (s .plan) (s .figures) (Run h w)
+  pub run-answer : (h w : ℕ) (rec : Recording) {g : Figures} {r : Answer} → g ≡ stepped (s .plan) (Run h w rec) (s .figures)
+      → r ≡ gives h (g .continuous .phase) 0 → r ≡ entryAnswer (s .plan) (s .figures) (Run h w rec)
   unfolding entryAnswer acceptedBy
-  run-answer h w on given = given ∙ rw on refl
+  run-answer h w rec on given = given ∙ rw on refl
 
-  pub block-answer : (q w : ℕ) {g : Figures} {r : Answer} → g ≡ stepped (s .plan) (Block q w) (s .figures)
+  pub block-answer : (q w : ℕ) (rec : Recording) {g : Figures} {r : Answer} → g ≡ stepped (s .plan) (Block q w rec) (s .figures)
       → r ≡ gives (afterBlock (s .plan .b) q (eqb w 1) (s .figures .continuous) .accepted)
       (afterBlock (s .plan .b) q (eqb w 1) (s .figures .continuous) .«hear_back») (g .continuous .phase)
-      → r ≡ entryAnswer (s .plan) (s .figures) (Block q w)
+      → r ≡ entryAnswer (s .plan) (s .figures) (Block q w rec)
   unfolding entryAnswer acceptedBy
-  block-answer q w on given = given ∙ rw on refl
+  block-answer q w rec on given = given ∙ rw on refl
 
   pub stop-answer : (why days : ℕ) {r : Answer} → r ≡ gives 0 0 0 → r ≡ entryAnswer (s .plan) (s .figures) (Stop why days)
   unfolding entryAnswer
@@ -141,9 +144,10 @@ module _ {area : List ℕ} {s : Standing} {es : List Entry} (at : OpenedAt 0 are
   pub after-fits : (e : Entry) → firstOf (entryRefusals (s .plan) (s .figures) (s .count) e) ≡ 0 → {g : Figures}
       → g ≡ stepped (s .plan) e (s .figures) → LevelFits (g .level)
   after-fits e none given =
+      let allowed = passed-all (s .plan) (s .figures) (s .count) e none .allowed in
       rw given
-      (level-fits (suc (s .count)) _ (omega (arith, room-for (s .plan) (s .figures) (s .count) e none))
-      (stepped-within (s .plan) e (s .figures) (s .count) (read-plan at) none (read-figures at)))
+      (level-fits (suc (s .count)) _ (omega (arith, room-for (s .plan) (s .figures) (s .count) e allowed))
+      (stepped-within (s .plan) e (s .figures) (s .count) (read-plan at) allowed (read-figures at)))
 
   -- Ask
   pub ask-refused : (size : ℕ) {n : ℕ} {r : Answer} → n ≡ firstOf (askRefusals (s .plan) (s .figures) size) → (n ≡ 0 → ⊥) → r ≡ refused n
@@ -165,6 +169,12 @@ module _ {area : List ℕ} {s : Standing} {es : List Entry} (at : OpenedAt 0 are
   unfolding refusalOf refusals firstOf answerOf changed
   has-read {r} given =
       by-call area Read r (opened (s .plan) es) area (at .reads) refl (rw (← at .counted, ← at .brought) given) (read-area at)
+
+  -- Newest
+  pub newest-counted : (n : ℕ) {r : Answer} → r ≡ gives (min n (s .count)) 0 0 → leaves r area ≡ onArea area (Newest n)
+  unfolding refusalOf refusals firstOf answerOf changed newestOf
+  newest-counted n {r} given =
+      by-call area (Newest n) r (opened (s .plan) es) area (at .reads) refl (rw (← at .counted) given) (read-area at)
 
 -- Back
 pub back-none : {area : List ℕ} {s : Standing} {es : List Entry} → OpenedAt 1 area s es → {r : Answer} → s .count ≡ 0

@@ -164,7 +164,7 @@ pub none-whole : (store out : List ℕ) (at have : ℕ) (piece : List ℕ) (i : 
 unfolding frameAt
 none-whole store out at have piece i none = frame-none store out at _ (rw none)
 
--- one byte of a piece, and 44 bytes with the one behind them
+-- one byte of a piece, and 60 bytes with the one behind them
 
 pub part-one : (piece : List ℕ) (i : ℕ) → i < length piece → part i 1 piece ≡ getD piece i 0 ∷ []
 unfolding part

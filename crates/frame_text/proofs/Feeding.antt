@@ -180,7 +180,7 @@ digits-go-on store line (b ∷ bytes) h fits =
     let more = digits-go-on store (line ++ (b ∷ [])) bytes (parts .1) (rw length-append (omega arith)) in
     rw (digit-goes-on b (parts .0), room, ← append-assoc line (b ∷ []) bytes) more
 
--- a frame's 44 digits and a line feed, where no line is begun, make its call and print its text
+-- a frame's 60 digits and a line feed, where no line is begun, make its call and print its text
 pub frame-line : (store line : List ℕ) → length line ≡ frameLength → T (allDigits line)
     → (afterBytes (record { store = store; line = [] }) (line ++ (lineFeed ∷ [])) ≡ record { store = onLine store line .store; line = [] })
     × (printedBy (record { store = store; line = [] }) (line ++ (lineFeed ∷ [])) ≡ onLine store line .text)
@@ -192,7 +192,7 @@ frame-line store line long h =
       rw (cut-text start line (lineFeed ∷ []), read .0, read .1) (append-nil _),
     )
 
--- a line that makes a call is 44 digits
+-- a line that makes a call is 60 digits
 pub frame-digits : (line : List ℕ) (stream : ℕ) (c : Call) → frameOf line ≡ Made stream c → (length line ≡ frameLength) × T (allDigits line)
 unfolding frameOf
 frame-digits line stream c e = go (eqb (length line) frameLength && allDigits line) _ refl e

@@ -10,7 +10,7 @@ use Rattle.model.specs.Store.{answersTo}
 use Rattle.model.specs.Claims.{onAll}
 use Rattle.model.specs.Cases.{callsOf, answersOf, frameCase}
 use Rattle.model.proofs.CallCases.{cases-hold}
-use Rattle.numbering.specs.Numbers.{uses, unusedZero, numbered}
+use Rattle.numbering.specs.Numbers.{isRecordingSlot, uses, unusedZero, numbered}
 use Rattle.frame_text.specs.Digits.{digit, allDigits, digitValue, digitOf, goneOn, hexValue, digitsOf}
 use Rattle.frame_text.specs.Frames.{callNumber, streamIn, argument, argumentsTo, frameOf}
 use Rattle.frame_text.specs.Answers.{answerText}
@@ -37,7 +37,7 @@ pub whole-case : WholeCase
 unfolding
     texts answersTo onAll callsOf answersOf frameCase part within
     digit allDigits digitValue digitOf goneOn hexValue digitsOf callNumber streamIn argument argumentsTo
-    uses unusedZero numbered frameOf
+    isRecordingSlot uses unusedZero numbered frameOf
     answerText before lines onFrame onLine outputFrom output
     openLine lotLine askLine backLine openAnswer lotAnswer askAnswer backAnswer caseInput caseOutput
 whole-case = ap texts (cases-hold .0)

@@ -1,5 +1,6 @@
 -- A line as a frame: paper 01, "Hexadecimal frames". "One frame a line, 44 lower-case digits: call (1 Open to 8 Read, in the order
--- above), stream, five 32-bit arguments, big end first, unused ones 0." Assumes nothing.
+-- above), stream, five 32-bit arguments, big end first, unused ones 0." With two arguments more at the end it has 60 digits, and the call
+-- may be 9: paper 02, card 1. Assumes nothing.
 use Prim.Native.Nat.{ℕ, zero, suc, _+_, _*_}
 use mathlib.Core.Bool.{cond, _&&_}
 use mathlib.Core.List.{List, [], _∷_, _++_}
@@ -19,7 +20,7 @@ byteDigits = 2
 abbrev pub wordDigits : ℕ
 wordDigits = 8
 
--- 44
+-- 60
 abbrev pub frameLength : ℕ
 frameLength = byteDigits + byteDigits + wordDigits * frameArguments
 
@@ -40,7 +41,7 @@ unfoldable pub argumentsTo : List ℕ → ℕ → List ℕ
 argumentsTo line zero = []
 argumentsTo line (suc k) = argumentsTo line k ++ (argument line k ∷ [])
 
--- a line of exactly 44 digits is the frame that its numbers make; any other line is bad
+-- a line of exactly 60 digits is the frame that its numbers make; any other line is bad
 unfoldable pub frameOf : List ℕ → Frame
 frameOf line =
     cond (eqb (length line) frameLength && allDigits line)

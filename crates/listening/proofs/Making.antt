@@ -1,6 +1,6 @@
--- What Open, Back, Ask and Read give, each answer from facts in the code's own form: what is seen of the stream, what was tested, what was
+-- What Open, Back, Ask, Read and Newest give, each answer from facts in the code's own form: what is seen of the stream, what was tested, what was
 -- written. The sets at the end are handed to the search, which finds these facts among what a function has learnt. Assumes nothing.
-use Prim.Native.Nat.{ℕ, _-_, _≤_, _<_}
+use Prim.Native.Nat.{ℕ, _+_, _-_, _≤_, _<_, min}
 use mathlib.Core.Path.{_≡_, refl, sym, ap, _∙_}
 use mathlib.Core.Bool.{Bool, true, false, not}
 use mathlib.Core.List.{List}
@@ -9,24 +9,26 @@ use borrow.Author.Tests.{not-true, not-false}
 use mir.Val.{Fits}
 use mir.Syntax.{w32}
 use lib.Dec.{T}
-use lib.ListN.{length}
-use Rattle.little.specs.Little.{written}
+use lib.ListN.{length, take, drop}
+use Rattle.little.specs.Little.{part, written}
 use Rattle.plans.specs.Limits.{largestLot, largestCredit}
 use Rattle.model.specs.declared.Plan.{Plan}
 use Rattle.model.specs.declared.Entry.{Entry}
 use Rattle.model.specs.declared.Call.{Call}
-use Rattle.model.specs.declared.Call.the-variants.{Open, Enter, Back, Ask, Read}
+use Rattle.model.specs.declared.Call.the-variants.{Open, Enter, Back, Ask, Read, Newest}
 use Rattle.model.specs.declared.Answer.{Answer}
+use Rattle.model.specs.declared.Part.{Part}
 use Rattle.model.specs.Sizes.{recordLength, mostRecords, streams, storeLength, startOf}
 use Rattle.model.specs.Stations.{unopened, validPlan, isContinuous}
 use Rattle.model.specs.Figuring.{started, sampleAsked}
 use Rattle.model.specs.Records.{recordIn}
 use Rattle.model.specs.FigureBounds.{FiguresWithin}
-use Rattle.model.specs.Calls.{refused, gives, refusalOf, refusals, firstOf, askRefusals, readFigure}
+use Rattle.model.specs.Calls.{refused, gives, refusalOf, refusals, firstOf, askRefusals, readFigure, newestOf}
 use Rattle.model.specs.Area.{zeros, headerOf}
-use Rattle.model.specs.Store.{areaAt, onStore}
+use Rattle.model.specs.Store.{StoreOutcome, areaAt, onStore, endingAtLast, noPart, newestPart, newestRecords}
 use Rattle.model.specs.Claims.{on}
 use Rattle.model.proofs.Booleans.{of-holds}
+use Rattle.model.proofs.NewestRecords.{no-part, opened-part, part-fits}
 use Rattle.rules.proofs.Counts.{credit-within}
 use Rattle.records.specs.Records.{recordAt}
 use Rattle.replay.specs.declared.Standing.{Standing}
@@ -42,6 +44,7 @@ use Rattle.areas.proofs.Outcomes.{
   asked,
   allowed-ask,
   has-read,
+  newest-counted,
 }
 use Rattle.listening.specs.Handed.{lookedAt, MayWrite}
 use Rattle.listening.proofs.Looking.{keeps, OpenedIn, UnopenedIn, opened-in, unopened-in, on-kept, on-written, look-refused}
@@ -62,6 +65,10 @@ unopened-ask size = refl
 pub unopened-read : refusalOf unopened Read ≡ 6
 unfolding refusalOf refusals firstOf
 unopened-read = refl
+
+pub unopened-newest : (n : ℕ) → refusalOf unopened (Newest n) ≡ 6
+unfolding refusalOf refusals firstOf
+unopened-newest n = refl
 
 pub shut : (store : List ℕ) (stream newest : ℕ) (s : Standing) (c : Call) (a : Answer) → s ≡ lookedAt newest stream store → (s .refusal ≡ 0 → ⊥)
     → a ≡ refused (s .refusal) → refusalOf unopened c ≡ 6 → keeps a store ≡ onStore store (on stream c)
@@ -168,6 +175,46 @@ module _ (store : List ℕ) (stream : ℕ) (s : Standing) (seen : s ≡ lookedAt
       on-kept store stream (opened .whole) (opened .known) Read
       (has-read (opened .at) (given ∙ ap (gives (s .count) (s .figures .accepted)) same))
 
+  -- ---- Newest
+  module _ (n handed : ℕ) (least : handed ≡ min n (s .count)) where
+    pub handed-fits : Fits w32 handed
+    handed-fits = record { fits = omega (arith, seen-count) }
+
+    pub newest-made : (a : Answer) → a ≡ gives handed 0 0 → keeps a store ≡ onStore store (on stream (Newest n))
+    newest-made a given =
+        on-kept store stream (opened .whole) (opened .known) (Newest n)
+        (newest-counted (opened .at) n (given ∙ ap (λ (m : ℕ). gives m 0 0) least))
+
+    pub stream-known : stream < streams
+    stream-known = opened .known
+
+    pub handed-most : handed ≤ s .count
+    handed-most = omega arith
+
+    pub part-made : (part : Part) → part ≡ endingAtLast stream (s .count) handed → part ≡ newestPart store stream n
+    unfolding newestOf
+    part-made part ends =
+        ends
+        ∙ rw (least, opened .at .counted)
+        (sym (opened-part store stream n (opened .whole) (opened .known) (s .plan) (opened .entries) (opened .at .reads)))
+
+pub part-shut : (store : List ℕ) (stream : ℕ) (s : Standing) (n : ℕ) → s ≡ lookedAt 0 stream store → (s .refusal ≡ 0 → ⊥)
+    → noPart ≡ newestPart store stream n
+part-shut store stream s n seen some =
+    let given = shut store stream 0 s (Newest n) (refused (s .refusal)) seen some refl (unopened-newest n) in
+    sym (no-part store stream n (λ z. some (ap (λ (o : StoreOutcome). o .answer .refusal) given ∙ z)))
+
+-- the part that was found, inside the store, and as code takes it
+module _ (store : List ℕ) (stream n : ℕ) (found : Part) (same : found ≡ newestPart store stream n) where
+  pub part-inside : found .offset + found .length ≤ length store
+  part-inside = rw same (part-fits store stream n)
+
+  pub part-taken : take (found .offset + found .length - found .offset) (drop (found .offset) store) ≡ newestRecords store stream n
+  unfolding newestRecords part
+  part-taken =
+      let wide : found .offset + found .length - found .offset ≡ found .length = omega arith in
+      rw (wide, same)
+
 pub ask-lots : (s : Standing) (size n : ℕ) → n ≡ firstOf (askRefusals (s .plan) (s .figures) size) → n ≡ 0 → isContinuous (s .plan) ≡ false
 ask-lots s size n said none = allowed-ask _ _ _ (sym said ∙ none) .0
 
@@ -177,7 +224,7 @@ ask-from s size n said none = allowed-ask _ _ _ (sym said ∙ none) .1
 pub ask-to : (s : Standing) (size n : ℕ) → n ≡ firstOf (askRefusals (s .plan) (s .figures) size) → n ≡ 0 → size ≤ largestLot
 ask-to s size n said none = allowed-ask _ _ _ (sym said ∙ none) .2
 
-pub ruleset shut-calls = (shut, unopened-enter, unopened-back, unopened-ask, unopened-read)
+pub ruleset shut-calls = (shut, unopened-enter, unopened-back, unopened-ask, unopened-read, unopened-newest)
 
 pub ruleset opens = (open-shut, open-twice, open-refused, open-taken, open-whole, open-known, open-valid)
 
@@ -186,3 +233,7 @@ pub ruleset backs = (shut-calls, back-refused, back-may, back-made)
 pub ruleset asks = (shut-calls, seen-plan, seen-credit, ask-first, ask-made, ask-lots, ask-from, ask-to)
 
 pub ruleset reads = (shut-calls, count-fits, accepted-fits, read-made)
+
+pub ruleset newest-calls = (shut-calls, handed-fits, newest-made)
+
+pub ruleset newest-parts = (part-shut, seen-count, stream-known, handed-most, part-made)

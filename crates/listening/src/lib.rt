@@ -1,19 +1,20 @@
-// The listening controller: paper 01's eight calls on a lent store of sixteen streams. No call asks anything of its caller: bad input
-// gets a refusal number, and the store stays as it was. A call looks at its stream, which gives refusals 1, 2, 3 and 6 in one place; it
-// tests its own refusals; an entry is then tried by the step of its plan; and what changed is written in the stream's area.
+// The listening controller: the calls of paper 01, and of paper 02 up to card 1, on a lent store of sixteen streams. No call asks anything
+// of its caller: bad input gets a refusal number, and the store stays as it was. A call looks at its stream, which gives refusals 1, 2, 3
+// and 6 in one place; it tests its own refusals; an entry is then tried by the step of its plan; and what changed is written in the
+// stream's area.
 ghost use mathlib.Core.Path.{_≡_};
-ghost use Prim.Native.Nat.{_+_, _<_};
+ghost use Prim.Native.Nat.{_+_, _≤_, _<_, min};
 ghost use lib.Dec.{T};
 ghost use lib.ListN.{length};
 ghost use Rattle.little.specs.Little.{written};
 ghost use Rattle.model.specs.declared.Entry.the-variants.{Lot, Run, Block, Stop};
-ghost use Rattle.model.specs.declared.Call.the-variants.{Open, Enter, Back, Ask, Read};
-ghost use Rattle.model.specs.Sizes.{recordLength, streams, storeLength, startOf};
+ghost use Rattle.model.specs.declared.Call.the-variants.{Open, Enter, Back, Ask, Read, Newest};
+ghost use Rattle.model.specs.Sizes.{recordLength, mostRecords, streams, storeLength, startOf};
 ghost use Rattle.model.specs.Stations.{validPlan};
 ghost use Rattle.model.specs.Figuring.{started};
 ghost use Rattle.model.specs.Records.{recordBytes, recordIn};
 ghost use Rattle.model.specs.Area.{zeros, headerOf};
-ghost use Rattle.model.specs.Store.{areaAt, onStore};
+ghost use Rattle.model.specs.Store.{areaAt, onStore, endingAtLast, newestPart, newestRecords};
 ghost use Rattle.model.specs.Claims.{on};
 ghost use Rattle.records.specs.Records.{recordAt};
 ghost use Rattle.areas.specs.Written.{rewritten};
@@ -22,8 +23,11 @@ use model::Answer;
 use model::Call;
 use model::Entry;
 use model::Figures;
+use model::HeardLot;
+use model::Part;
 use model::Plan;
 use model::Record;
+use model::Recording;
 use model::sizes;
 use model::sizes::STORE_LENGTH;
 use model::sizes::STREAMS;
@@ -35,7 +39,7 @@ use rules::asking;
 use rules::plan;
 use rules::refusing;
 
-// The last refusal of a lot, of a run or block, and of a stop: given where the step of the plan fails.
+// The last of paper 01's refusals of a lot, of a run or block, and of a stop: given where the step of the plan fails.
 const COUNTS_DISAGREE: u32 = 13;
 
 const OUT_OF_PHASE: u32 = 14;
@@ -70,8 +74,9 @@ pub fn lot(
     sample: u32,
     wrong: u32,
     wrong_in_all: u32,
+    recording: Recording,
 ) -> Answer
-    ensures { λ r. ⌜ record { answer = r; store = now (store .exit) } ≡ onStore (now (store .entry)) (on stream (Enter (Lot label size sample wrong «wrong_in_all»))) ⌝ }
+    ensures { λ r. ⌜ record { answer = r; store = now (store .exit) } ≡ onStore (now (store .entry)) (on stream (Enter (Lot label size sample wrong «wrong_in_all» recording))) ⌝ }
 {
     enter_lot(
         store,
@@ -81,6 +86,7 @@ pub fn lot(
         SampleSize(sample),
         wrong,
         wrong_in_all,
+        recording,
     )
 }
 
@@ -93,8 +99,9 @@ fn enter_lot(
     sample: SampleSize,
     wrong: u32,
     wrong_in_all: u32,
+    recording: Recording,
 ) -> Answer
-    ensures { λ r. ⌜ record { answer = r; store = now (store .exit) } ≡ onStore (now (store .entry)) (on stream (Enter (Lot label (size .0) (sample .0) wrong «wrong_in_all»))) ⌝ }
+    ensures { λ r. ⌜ record { answer = r; store = now (store .exit) } ≡ onStore (now (store .entry)) (on stream (Enter (Lot label (size .0) (sample .0) wrong «wrong_in_all» recording))) ⌝ }
 {
     let standing = look(store, stream, 0);
     if standing.refusal != 0 {
@@ -107,12 +114,19 @@ fn enter_lot(
     if refusal != 0 {
         return answering::refused(refusal);
     }
-    let tried = replay::enter_lot(plan, before, label, size, wrong, wrong_in_all);
-    if !tried.sound {
-        return answering::refused(COUNTS_DISAGREE);
+    let heard = HeardLot {
+        label,
+        size,
+        wrong,
+        wrong_in_all,
+    };
+    let tried = replay::enter_lot(plan, before, heard);
+    let last = refusing::behind_earlier(tried.sound, COUNTS_DISAGREE, recording);
+    if last != 0 {
+        return answering::refused(last);
     }
     let after = tried.figures;
-    let answer = answering::lot(plan, before, after, size, wrong, wrong_in_all);
+    let answer = answering::lot(plan, before, after, heard);
     let record = Record {
         kind: records::LOT,
         flag: 0,
@@ -121,14 +135,15 @@ fn enter_lot(
         b: size.0,
         c: wrong,
         d: wrong_in_all,
+        recording,
     };
     put_entry(store, stream, plan, count, record, after);
     answer
 }
 
 // Enters a run.
-pub fn run(store: &mut [u8], stream: u32, right: u32, wrong: u32) -> Answer
-    ensures { λ r. ⌜ record { answer = r; store = now (store .exit) } ≡ onStore (now (store .entry)) (on stream (Enter (Run right wrong))) ⌝ }
+pub fn run(store: &mut [u8], stream: u32, right: u32, wrong: u32, recording: Recording) -> Answer
+    ensures { λ r. ⌜ record { answer = r; store = now (store .exit) } ≡ onStore (now (store .entry)) (on stream (Enter (Run right wrong recording))) ⌝ }
 {
     let standing = look(store, stream, 0);
     if standing.refusal != 0 {
@@ -141,26 +156,19 @@ pub fn run(store: &mut [u8], stream: u32, right: u32, wrong: u32) -> Answer
         return answering::refused(refusal);
     }
     let tried = replay_continuous::enter_run(plan, standing.figures, right, wrong);
-    if !tried.sound {
-        return answering::refused(OUT_OF_PHASE);
+    let last = refusing::behind_earlier(tried.sound, OUT_OF_PHASE, recording);
+    if last != 0 {
+        return answering::refused(last);
     }
     let after = tried.figures;
-    let record = Record {
-        kind: records::RUN,
-        flag: wrong as u8,
-        spare: 0,
-        a: right,
-        b: 0,
-        c: 0,
-        d: 0,
-    };
+    let record = records::with_one(records::RUN, wrong as u8, right, recording);
     put_entry(store, stream, plan, count, record, after);
     answering::run(after, right)
 }
 
 // Enters a block.
-pub fn block(store: &mut [u8], stream: u32, heard: u32, wrong: u32) -> Answer
-    ensures { λ r. ⌜ record { answer = r; store = now (store .exit) } ≡ onStore (now (store .entry)) (on stream (Enter (Block heard wrong))) ⌝ }
+pub fn block(store: &mut [u8], stream: u32, heard: u32, wrong: u32, recording: Recording) -> Answer
+    ensures { λ r. ⌜ record { answer = r; store = now (store .exit) } ≡ onStore (now (store .entry)) (on stream (Enter (Block heard wrong recording))) ⌝ }
 {
     let standing = look(store, stream, 0);
     if standing.refusal != 0 {
@@ -174,25 +182,18 @@ pub fn block(store: &mut [u8], stream: u32, heard: u32, wrong: u32) -> Answer
         return answering::refused(refusal);
     }
     let tried = replay_continuous::enter_block(plan, before, heard, wrong);
-    if !tried.sound {
-        return answering::refused(OUT_OF_PHASE);
+    let last = refusing::behind_earlier(tried.sound, OUT_OF_PHASE, recording);
+    if last != 0 {
+        return answering::refused(last);
     }
     let after = tried.figures;
     let answer = answering::block(plan, before, after, heard, wrong);
-    let record = Record {
-        kind: records::BLOCK,
-        flag: wrong as u8,
-        spare: 0,
-        a: heard,
-        b: 0,
-        c: 0,
-        d: 0,
-    };
+    let record = records::with_one(records::BLOCK, wrong as u8, heard, recording);
     put_entry(store, stream, plan, count, record, after);
     answer
 }
 
-// Enters a stop.
+// Enters a stop, which has no recording.
 pub fn stop(store: &mut [u8], stream: u32, why: u32, days: u32) -> Answer
     ensures { λ r. ⌜ record { answer = r; store = now (store .exit) } ≡ onStore (now (store .entry)) (on stream (Enter (Stop why days))) ⌝ }
 {
@@ -210,15 +211,7 @@ pub fn stop(store: &mut [u8], stream: u32, why: u32, days: u32) -> Answer
     if !tried.sound {
         return answering::refused(OUT_OF_RANGE);
     }
-    let record = Record {
-        kind: records::STOP,
-        flag: why as u8,
-        spare: 0,
-        a: days,
-        b: 0,
-        c: 0,
-        d: 0,
-    };
+    let record = records::with_one(records::STOP, why as u8, days, records::no_recording());
     put_entry(store, stream, plan, count, record, tried.figures);
     answering::gives(0, 0, 0)
 }
@@ -244,7 +237,7 @@ pub fn back(store: &mut [u8], stream: u32) -> Answer
     answering::gives(kind, 0, 0)
 }
 
-// The sample that a lot would ask for. Ask and Read borrow the store with `&`, so that they can't write.
+// The sample that a lot would ask for. Calls that only look borrow the store with `&`, so that they can't write.
 pub fn ask(store: &[u8], stream: u32, size: u32) -> Answer
     ensures { λ r. ⌜ record { answer = r; store = now (store .entry) } ≡ onStore (now (store .entry)) (on stream (Ask size)) ⌝ }
 {
@@ -279,6 +272,41 @@ pub fn read(store: &[u8], stream: u32) -> Answer
     )
 }
 
+// How many of the newest standing records a count gets.
+pub fn newest_answer(store: &[u8], stream: u32, count: u32) -> Answer
+    ensures { λ r. ⌜ record { answer = r; store = now (store .entry) } ≡ onStore (now (store .entry)) (on stream (Newest count)) ⌝ }
+{
+    let standing = look(store, stream, 0);
+    if standing.refusal != 0 {
+        return answering::refused(standing.refusal);
+    }
+    answering::gives(at_most(count, standing.count) as u32, 0, 0)
+}
+
+// Where these records lie in the store.
+pub fn newest_part(store: &[u8], stream: u32, count: u32) -> Part
+    ensures { λ r. ⌜ r ≡ newestPart (now (store .entry)) stream count ⌝ }
+{
+    let standing = look(store, stream, 0);
+    if standing.refusal != 0 {
+        return Part {
+            offset: 0,
+            length: 0,
+        };
+    }
+    ending_at_last(stream, standing.count, at_most(count, standing.count))
+}
+
+// The records themselves: a part of the lent store, ending at the last standing record, and empty where the call is refused.
+pub fn newest(store: &[u8], stream: u32, count: u32) -> &[u8]
+    ensures { λ r. ⌜ now r ≡ newestRecords (now (store .entry)) stream count ⌝ }
+{
+    let found = newest_part(store, stream, count);
+    let start = found.offset;
+    let end = start + found.length;
+    &store[start..end]
+}
+
 // Makes any of the calls.
 pub fn make(store: &mut [u8], stream: u32, call: Call) -> Answer
     ensures { λ r. ⌜ record { answer = r; store = now (store .exit) } ≡ onStore (now (store .entry)) (on stream call) ⌝ }
@@ -289,6 +317,7 @@ pub fn make(store: &mut [u8], stream: u32, call: Call) -> Answer
         Call::Back => back(store, stream),
         Call::Ask(size) => ask(store, stream, size),
         Call::Read => read(store, stream),
+        Call::Newest(count) => newest_answer(store, stream, count),
     }
 }
 
@@ -303,9 +332,27 @@ fn enter(store: &mut [u8], stream: u32, entry: Entry) -> Answer
             sample,
             wrong,
             wrong_in_all,
-        } => lot(store, stream, label, size, sample, wrong, wrong_in_all),
-        Entry::Run { right, wrong } => run(store, stream, right, wrong),
-        Entry::Block { heard, wrong } => block(store, stream, heard, wrong),
+            recording,
+        } => lot(
+            store,
+            stream,
+            label,
+            size,
+            sample,
+            wrong,
+            wrong_in_all,
+            recording,
+        ),
+        Entry::Run {
+            right,
+            wrong,
+            recording,
+        } => run(store, stream, right, wrong, recording),
+        Entry::Block {
+            heard,
+            wrong,
+            recording,
+        } => block(store, stream, heard, wrong, recording),
         Entry::Stop { why, days } => stop(store, stream, why, days),
     }
 }
@@ -371,6 +418,29 @@ fn refusal_of(store_length: usize, stream: u32) -> u32
         return 2;
     }
     0
+}
+
+// So many of a stream's standing records, the last of which ends the part.
+fn ending_at_last(stream: u32, standing: usize, handed: usize) -> Part
+    requires { ⌜ (stream < streams) × (standing ≤ mostRecords) × (handed ≤ standing) ⌝ }
+    ensures { λ r. ⌜ r ≡ endingAtLast stream standing handed ⌝ }
+{
+    let before = sizes::HEADER_LENGTH + sizes::RECORD_LENGTH * (standing - handed);
+    Part {
+        offset: start_of(stream) + before,
+        length: sizes::RECORD_LENGTH * handed,
+    }
+}
+
+// As many as the count says, or all where fewer stand.
+fn at_most(count: u32, standing: usize) -> usize
+    ensures { λ r. ⌜ r ≡ min count standing ⌝ }
+{
+    let asked = count as usize;
+    if asked < standing {
+        return asked;
+    }
+    standing
 }
 
 // Where a stream's area starts.

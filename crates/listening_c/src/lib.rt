@@ -1,13 +1,15 @@
-// The calls for C and Rust: include/listening.h declares them. Each is the call of the same name in `listening`, and promises the
-// same: there is no duty for the caller beyond what the header says of pointers.
+// The calls for C and Rust: include/listening.h declares them. Each is the call of the same name in `listening` (of `listening_newest`,
+// `newest_answer`), and promises the same: there is no duty for the caller beyond what the header says of pointers.
 ghost use mathlib.Core.Path.{_≡_};
 ghost use Rattle.model.specs.declared.Entry.the-variants.{Lot, Run, Block, Stop};
-ghost use Rattle.model.specs.declared.Call.the-variants.{Open, Enter, Back, Ask, Read};
-ghost use Rattle.model.specs.Store.{onStore};
+ghost use Rattle.model.specs.declared.Call.the-variants.{Open, Enter, Back, Ask, Read, Newest};
+ghost use Rattle.model.specs.Store.{onStore, newestPart};
 ghost use Rattle.model.specs.Claims.{on};
 ghost use Rattle.listening.specs.Handed.{planOf};
 ghost use Rattle.lists.specs.Lists.{Listed};
 use model::Answer;
+use model::Part;
+use model::Recording;
 
 #[no_mangle]
 pub extern "C" fn listening_open(
@@ -32,24 +34,49 @@ pub extern "C" fn listening_lot(
     sample: u32,
     wrong: u32,
     wrong_in_all: u32,
+    number: u32,
+    second: u32,
 ) -> Answer
-    ensures { λ r. ⌜ record { answer = r; store = now (store .exit) } ≡ onStore (now (store .entry)) (on stream (Enter (Lot label size sample wrong «wrong_in_all»))) ⌝ }
+    ensures { λ r. ⌜ record { answer = r; store = now (store .exit) } ≡ onStore (now (store .entry)) (on stream (Enter (Lot label size sample wrong «wrong_in_all» (record { number = number; second = second })))) ⌝ }
 {
-    listening::lot(store, stream, label, size, sample, wrong, wrong_in_all)
+    listening::lot(
+        store,
+        stream,
+        label,
+        size,
+        sample,
+        wrong,
+        wrong_in_all,
+        Recording { number, second },
+    )
 }
 
 #[no_mangle]
-pub extern "C" fn listening_run(store: &mut [u8], stream: u32, right: u32, wrong: u32) -> Answer
-    ensures { λ r. ⌜ record { answer = r; store = now (store .exit) } ≡ onStore (now (store .entry)) (on stream (Enter (Run right wrong))) ⌝ }
+pub extern "C" fn listening_run(
+    store: &mut [u8],
+    stream: u32,
+    right: u32,
+    wrong: u32,
+    number: u32,
+    second: u32,
+) -> Answer
+    ensures { λ r. ⌜ record { answer = r; store = now (store .exit) } ≡ onStore (now (store .entry)) (on stream (Enter (Run right wrong (record { number = number; second = second })))) ⌝ }
 {
-    listening::run(store, stream, right, wrong)
+    listening::run(store, stream, right, wrong, Recording { number, second })
 }
 
 #[no_mangle]
-pub extern "C" fn listening_block(store: &mut [u8], stream: u32, heard: u32, wrong: u32) -> Answer
-    ensures { λ r. ⌜ record { answer = r; store = now (store .exit) } ≡ onStore (now (store .entry)) (on stream (Enter (Block heard wrong))) ⌝ }
+pub extern "C" fn listening_block(
+    store: &mut [u8],
+    stream: u32,
+    heard: u32,
+    wrong: u32,
+    number: u32,
+    second: u32,
+) -> Answer
+    ensures { λ r. ⌜ record { answer = r; store = now (store .exit) } ≡ onStore (now (store .entry)) (on stream (Enter (Block heard wrong (record { number = number; second = second })))) ⌝ }
 {
-    listening::block(store, stream, heard, wrong)
+    listening::block(store, stream, heard, wrong, Recording { number, second })
 }
 
 #[no_mangle]
@@ -78,6 +105,21 @@ pub extern "C" fn listening_read(store: &[u8], stream: u32) -> Answer
     ensures { λ r. ⌜ record { answer = r; store = now (store .entry) } ≡ onStore (now (store .entry)) (on stream Read) ⌝ }
 {
     listening::read(store, stream)
+}
+
+#[no_mangle]
+pub extern "C" fn listening_newest(store: &[u8], stream: u32, count: u32) -> Answer
+    ensures { λ r. ⌜ record { answer = r; store = now (store .entry) } ≡ onStore (now (store .entry)) (on stream (Newest count)) ⌝ }
+{
+    listening::newest_answer(store, stream, count)
+}
+
+// C cannot be handed a part of what it lent, so it is told where the part is.
+#[no_mangle]
+pub extern "C" fn listening_newest_part(store: &[u8], stream: u32, count: u32) -> Part
+    ensures { λ r. ⌜ r ≡ newestPart (now (store .entry)) stream count ⌝ }
+{
+    listening::newest_part(store, stream, count)
 }
 
 #[no_mangle]

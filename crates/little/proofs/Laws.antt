@@ -178,6 +178,27 @@ pub then-set : (at : ℕ) {next : ℕ} (a : List ℕ) (x : ℕ) (s : List ℕ) {
 then-set at {next} a x s {t} p e h =
     then-written at a (x ∷ []) s p (set-written next x t (omega (arith, length-after at a s p (omega arith)))) e (omega arith)
 
+pub getD-part : (at k : ℕ) (s : List ℕ) (i : ℕ) → i < k → getD (part at k s) i 0 ≡ getD s (at + i) 0
+unfolding part
+getD-part at k s i h = rw (getD-take k (drop at s) i 0 h, getD-drop at s i 0)
+
+-- no byte stands past a part's end
+length-part-le : (at k : ℕ) (s : List ℕ) → length (part at k s) ≤ k
+unfolding part
+length-part-le at k s = rw length-take (omega arith)
+
+length-part-part : (at m j k : ℕ) (s : List ℕ) → j + k ≤ m → length (part j k (part at m s)) ≡ length (part (at + j) k s)
+unfolding part
+length-part-part at m j k s h = simp (length-take, length-drop) (omega arith)
+
+-- a part of a part
+pub part-part : (at m j k : ℕ) (s : List ℕ) → j + k ≤ m → part j k (part at m s) ≡ part (at + j) k s
+part-part at m j k s h =
+    ext-getD 0 _ _ (length-part-part at m j k s h)
+    (λ i l.
+    let l′ : i < k = omega (arith, length-part-le j k (part at m s)) in
+    rw (getD-part j k (part at m s) i l′, getD-part at m s (j + i) (omega arith), getD-part (at + j) k s i l′, add-assoc))
+
 -- a part, and what stands behind it
 pub part-and-rest : (at k : ℕ) (s : List ℕ) → part at k s ++ drop (at + k) s ≡ drop at s
 unfolding part

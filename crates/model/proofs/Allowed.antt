@@ -1,18 +1,19 @@
 -- What is known of a plan that was accepted, and of entries: every refusal was passed. Assumes nothing.
 use Prim.Native.Nat.{ℕ, _+_, _≤_, _<_}
 use mathlib.Core.Path.{_≡_, refl}
-use mathlib.Core.Bool.{Bool, true, false, not, _&&_, _||_}
-use mathlib.Core.List.{List, [], _∷_}
+use mathlib.Core.Bool.{Bool, true, false, cond, not, _&&_, _||_}
+use mathlib.Core.List.{List, [], _∷_, _++_}
 use native.Mathlib.Omega.{arith}
-use lib.Dec.{T, eqb, ltb, leb, eqb→eq, leb→le}
+use lib.Dec.{T, eqb, ltb, leb, eqb→eq, leb→le, ltb→lt}
 use lib.ListN.{length}
-use borrow.Author.Tests.{ltb-false, leb-false, eqb-true, eqb-false, not-false}
+use borrow.Author.Tests.{ltb-false, leb-false, eqb-true, eqb-false, eq-eqb, ne-eqb, not-false}
 use Rattle.plans.specs.Limits.{largestAoql, verificationLevels, largestClearance, largestInterval, longestRun, longestStop}
 use Rattle.plans.specs.Continuous.{isSampling}
 use Rattle.model.specs.declared.Plan.{Plan}
 use Rattle.model.specs.declared.Entry.{Entry}
 use Rattle.model.specs.declared.Entry.the-variants.{Lot, Run, Block, Stop}
 use Rattle.model.specs.declared.Figures.{Figures}
+use Rattle.model.specs.declared.Recording.{Recording}
 use Rattle.model.specs.Sizes.{mostRecords}
 use Rattle.model.specs.Stations.{isCredit, isLevel, isContinuous, within, validPlan, entryArguments, allWords}
 use Rattle.model.specs.Figuring.{sampleAsked, verdictOn, figuresOf}
@@ -25,6 +26,9 @@ use Rattle.model.specs.Calls.{
   sameLabel,
   sizeInRange,
   countsAgree,
+  ruleRefusals,
+  allows,
+  lacksRecording,
   entryRefusals,
   accepts,
   admissible,
@@ -76,10 +80,10 @@ module _ (p : Plan) (f : Figures) (count : ℕ) where
   unfolding isFull
   room-of e = omega (arith, leb-false _ count e)
 
-  pub allowed-lot : (label N n d D : ℕ) → firstOf (entryRefusals p f count (Lot label N n d D)) ≡ 0
+  pub allowed-lot : (label N n d D : ℕ) (rec : Recording) → firstOf (ruleRefusals p f count (Lot label N n d D rec)) ≡ 0
       → AllowedLot p f count label N n d D
-  unfolding entryRefusals
-  allowed-lot label N n d D e =
+  unfolding ruleRefusals
+  allowed-lot label N n d D rec e =
       let seven = passed 7 _ _ (omega arith) e in
       let eight = passed 8 _ _ (omega arith) (seven .1) in
       let nine = passed 9 _ _ (omega arith) (eight .1) in
@@ -97,9 +101,9 @@ module _ (p : Plan) (f : Figures) (count : ℕ) where
         counts = not-false _ (thirteen .0);
       }
 
-  pub allowed-run : (h w : ℕ) → firstOf (entryRefusals p f count (Run h w)) ≡ 0 → AllowedRun p f count h w
-  unfolding entryRefusals
-  allowed-run h w e =
+  pub allowed-run : (h w : ℕ) (rec : Recording) → firstOf (ruleRefusals p f count (Run h w rec)) ≡ 0 → AllowedRun p f count h w
+  unfolding ruleRefusals
+  allowed-run h w rec e =
       let seven = passed 7 _ _ (omega arith) e in
       let nine = passed 9 _ _ (omega arith) (seven .1) in
       let fifteen = passed 15 _ _ (omega arith) (nine .1) in
@@ -118,9 +122,9 @@ module _ (p : Plan) (f : Figures) (count : ℕ) where
         fits = ltb-false (p .a) (f .continuous .count + h + w) (state .1);
       }
 
-  pub allowed-block : (q w : ℕ) → firstOf (entryRefusals p f count (Block q w)) ≡ 0 → AllowedBlock p f count q w
-  unfolding entryRefusals
-  allowed-block q w e =
+  pub allowed-block : (q w : ℕ) (rec : Recording) → firstOf (ruleRefusals p f count (Block q w rec)) ≡ 0 → AllowedBlock p f count q w
+  unfolding ruleRefusals
+  allowed-block q w rec e =
       let seven = passed 7 _ _ (omega arith) e in
       let nine = passed 9 _ _ (omega arith) (seven .1) in
       let fifteen = passed 15 _ _ (omega arith) (nine .1) in
@@ -136,8 +140,8 @@ module _ (p : Plan) (f : Figures) (count : ℕ) where
         sampled = not-false _ (fourteen .0);
       }
 
-  pub allowed-stop : (why days : ℕ) → firstOf (entryRefusals p f count (Stop why days)) ≡ 0 → AllowedStop f count why days
-  unfolding entryRefusals
+  pub allowed-stop : (why days : ℕ) → firstOf (ruleRefusals p f count (Stop why days)) ≡ 0 → AllowedStop f count why days
+  unfolding ruleRefusals
   allowed-stop why days e =
       let eight = passed 8 _ _ (omega arith) e in
       let nine = passed 9 _ _ (omega arith) (eight .1) in
@@ -154,29 +158,100 @@ module _ (p : Plan) (f : Figures) (count : ℕ) where
       }
 
 -- an entry was accepted with room for its record
-pub room-for : (p : Plan) (f : Figures) (count : ℕ) (e : Entry) → firstOf (entryRefusals p f count e) ≡ 0 → count < mostRecords
-room-for p f count (Lot label N n d D) h = allowed-lot p f count label N n d D h .room
-room-for p f count (Run h w) e = allowed-run p f count h w e .room
-room-for p f count (Block q w) e = allowed-block p f count q w e .room
+pub room-for : (p : Plan) (f : Figures) (count : ℕ) (e : Entry) → firstOf (ruleRefusals p f count e) ≡ 0 → count < mostRecords
+room-for p f count (Lot label N n d D rec) h = allowed-lot p f count label N n d D rec h .room
+room-for p f count (Run h w rec) e = allowed-run p f count h w rec e .room
+room-for p f count (Block q w rec) e = allowed-block p f count q w rec e .room
 room-for p f count (Stop why days) e = allowed-stop p f count why days e .room
 
+-- every refusal has a number, so that none is given exactly where none applies
+unfoldable numbered : List Refusal → Bool
+numbered [] = true
+numbered (r ∷ rs) = ltb 0 (r .number) && numbered rs
+
+-- the refusal behind others, which is given where none of them is
+abbrev behind : ℕ → Refusal → ℕ
+behind given last = cond (eqb given 0) (firstOf (last ∷ [])) given
+
+last-given : (rs : List Refusal) (last : Refusal) → T (numbered rs)
+    → firstOf (rs ++ (last ∷ [])) ≡ behind (firstOf rs) last
+unfolding firstOf numbered
+last-given [] last t = refl
+last-given (r ∷ rs) last t =
+    let parts = both-of (ltb 0 (r .number)) (numbered rs) t in
+    go (ltb→lt 0 (r .number) (parts .0)) (last-given rs last (parts .1)) (r .applies)
+  where
+    go : 0 < r .number → firstOf (rs ++ (last ∷ [])) ≡ behind (firstOf rs) last → (b : Bool)
+        → cond b (r .number) (firstOf (rs ++ (last ∷ []))) ≡ behind (cond b (r .number) (firstOf rs)) last
+    go positive others true = rw (ne-eqb (r .number) 0 (omega arith))
+    go positive others false = others
+
+rules-numbered : (p : Plan) (f : Figures) (count : ℕ) (e : Entry) → T (numbered (ruleRefusals p f count e))
+unfolding numbered ruleRefusals
+rules-numbered p f count (Lot label N n d D rec) = tt
+rules-numbered p f count (Run h w rec) = tt
+rules-numbered p f count (Block q w rec) = tt
+rules-numbered p f count (Stop why days) = tt
+
+-- an entry is refused by paper 01's rules, and else by 17 where it lacks a recording
+pub entry-refusal : (p : Plan) (f : Figures) (count : ℕ) (e : Entry)
+    → firstOf (entryRefusals p f count e)
+    ≡ cond (eqb (firstOf (ruleRefusals p f count e)) 0) (cond (lacksRecording e) 17 0) (firstOf (ruleRefusals p f count e))
+unfolding entryRefusals firstOf
+entry-refusal p f count e =
+    last-given (ruleRefusals p f count e) (refuse 17 (lacksRecording e)) (rules-numbered p f count e)
+
+-- so it is accepted where the rules allow it and it does not
+pub accepted-parts : (p : Plan) (f : Figures) (count : ℕ) (e : Entry)
+    → accepts p f count e ≡ (allows p f count e && not (lacksRecording e))
+unfolding accepts allows
+accepted-parts p f count e = rw (entry-refusal p f count e) (go (eqb (firstOf (ruleRefusals p f count e)) 0) (lacksRecording e) refl)
+  where
+    go : (b lacks : Bool) → eqb (firstOf (ruleRefusals p f count e)) 0 ≡ b
+        → eqb (cond b (cond lacks 17 0) (firstOf (ruleRefusals p f count e))) 0 ≡ (b && not lacks)
+    go true true k = refl
+    go true false k = refl
+    go false lacks k = k
+
+-- what is known of an entry that was accepted
+pub record Passed (p : Plan) (f : Figures) (count : ℕ) (e : Entry) : Type 0 where
+  pub allowed : firstOf (ruleRefusals p f count e) ≡ 0
+  pub recorded : lacksRecording e ≡ false
+
+pub passed-all : (p : Plan) (f : Figures) (count : ℕ) (e : Entry) → firstOf (entryRefusals p f count e) ≡ 0 → Passed p f count e
+passed-all p f count e h = go (eqb (firstOf (ruleRefusals p f count e)) 0) (lacksRecording e) refl refl (entry-refusal p f count e)
+  where
+    go : (b c : Bool) → eqb (firstOf (ruleRefusals p f count e)) 0 ≡ b → lacksRecording e ≡ c
+        → firstOf (entryRefusals p f count e) ≡ cond b (cond c 17 0) (firstOf (ruleRefusals p f count e)) → Passed p f count e
+    go true true k l given = absurd (omega arith)
+    go true false k l given = record { allowed = eqb-true (firstOf (ruleRefusals p f count e)) 0 k; recorded = l }
+    go false c k l given = absurd (eqb-false (firstOf (ruleRefusals p f count e)) 0 k (omega arith))
+
+pub all-passed : (p : Plan) (f : Figures) (count : ℕ) (e : Entry) → Passed p f count e → firstOf (entryRefusals p f count e) ≡ 0
+all-passed p f count e known =
+    rw (entry-refusal p f count e, eq-eqb (firstOf (ruleRefusals p f count e)) 0 (known .allowed), known .recorded)
+
 -- the newest entry was accepted after the others, which are admissible
-pub record Newest (p : Plan) (e : Entry) (es : List Entry) : Type 0 where
+pub record NewestEntry (p : Plan) (e : Entry) (es : List Entry) : Type 0 where
   pub others : T (admissible p es)
   pub accepted : firstOf (entryRefusals p (figuresOf p es) (length es) e) ≡ 0
+  pub allowed : firstOf (ruleRefusals p (figuresOf p es) (length es) e) ≡ 0
+  pub recorded : lacksRecording e ≡ false
   pub words : T (allWords (entryArguments e))
 
-pub newest-of : (p : Plan) (e : Entry) (es : List Entry) → T (admissible p (e ∷ es)) → Newest p e es
+pub newest-of : (p : Plan) (e : Entry) (es : List Entry) → T (admissible p (e ∷ es)) → NewestEntry p e es
 unfolding admissible accepts
 newest-of p e es t =
     let refusal : ℕ = firstOf (entryRefusals p (figuresOf p es) (length es) e) in
     let outer = both-of (admissible p es && eqb refusal 0) (allWords (entryArguments e)) t in
     let inner = both-of (admissible p es) (eqb refusal 0) (outer .0) in
-    record { others = inner .0; accepted = eqb→eq refusal 0 (inner .1); words = outer .1 }
+    let accepted = eqb→eq refusal 0 (inner .1) in
+    let passed = passed-all p (figuresOf p es) (length es) e accepted in
+    record { others = inner .0; accepted = accepted; allowed = passed .allowed; recorded = passed .recorded; words = outer .1 }
 
 pub count-within : (p : Plan) (es : List Entry) → T (admissible p es) → length es ≤ mostRecords
 count-within p [] t = omega arith
-count-within p (e ∷ es) t = room-for p (figuresOf p es) (length es) e (newest-of p e es t .accepted)
+count-within p (e ∷ es) t = room-for p (figuresOf p es) (length es) e (newest-of p e es t .allowed)
 
 -- the ranges of a valid plan, whatever its kind
 pub record PlanRange (p : Plan) : Type 0 where

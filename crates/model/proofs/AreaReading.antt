@@ -1,13 +1,13 @@
 -- The area of a station that calls can have left is read back as that station, and an area that is read is its station's.
 -- Assumes nothing.
-use Prim.Native.Nat.{ℕ, _*_, _-_, _^_, _≤_}
-use mathlib.Core.Path.{_≡_, refl, ap}
+use Prim.Native.Nat.{ℕ, _+_, _*_, _-_, _^_, _≤_, _<_}
+use mathlib.Core.Path.{_≡_, refl, ap, ap₂}
 use mathlib.Core.Bool.{Bool, true, false, _&&_}
 use mathlib.Core.List.{List, [], _∷_, _++_, append-assoc}
 use native.Mathlib.Omega.{arith}
 use lib.Dec.{T, eqb, ltb, eqb→eq, eqb-refl, ltb→lt}
-use lib.ListN.{length, getD, length-append, length-replicate}
-use lib.Seq.{take-at, drop-at, take-all}
+use lib.ListN.{length, drop, getD, length-append, length-take, length-drop, length-replicate, getD-replicate}
+use lib.Seq.{take-at, drop-at, take-all, ext-getD, getD-take, getD-drop}
 use borrow.Author.Tests.{ne-eqb}
 use Rattle.little.specs.Little.{bytes, value, part}
 use Rattle.little.proofs.Laws.{value-bytes}
@@ -15,12 +15,13 @@ use Rattle.model.specs.declared.Plan.{Plan}
 use Rattle.model.specs.declared.Entry.{Entry}
 use Rattle.model.specs.declared.Entry.the-variants.{Lot, Run, Block, Stop}
 use Rattle.model.specs.declared.Figures.{Figures}
+use Rattle.model.specs.declared.Recording.{Recording}
 use Rattle.model.specs.declared.Record.{Record}
 use Rattle.model.specs.Sizes.{recordLength, headerLength, mostRecords, areaLength}
 use Rattle.model.specs.Stations.{Station, unopened, opened, validPlan, entryArguments, allWords}
 use Rattle.model.specs.Figuring.{figuresOf}
-use Rattle.model.specs.Records.{recordBytes, recordIn, recordOf, entryOf}
-use Rattle.model.specs.Calls.{firstOf, entryRefusals, admissible, admissibleStation}
+use Rattle.model.specs.Records.{noRecording, recordingBytes, recordBytes, recordingIn, recordIn, recordOf, entryOf}
+use Rattle.model.specs.Calls.{firstOf, ruleRefusals, admissible, admissibleStation}
 use Rattle.model.specs.Area.{zeros, headerOf, recordsOf, areaOf, planIn, countIn, entriesIn, stationIn, sameBytes, unsound, holds, reading}
 use Rattle.model.proofs.Booleans.{holds-of, of-holds, both-of, both}
 use Rattle.model.proofs.Allowed.{allowed-lot, newest-of, count-within, plan-range}
@@ -44,7 +45,7 @@ same-bytes-eq (x ∷ xs) (y ∷ ys) t =
 -- ---- lengths
 
 pub length-record : (r : Record) → length (recordBytes r) ≡ recordLength
-unfolding recordBytes bytes
+unfolding recordBytes recordingBytes bytes
 length-record r = refl
 
 pub length-records : (es : List Entry) → length (recordsOf es) ≡ recordLength * length es
@@ -63,6 +64,21 @@ length-unopened = length-replicate {A = ℕ} areaLength 0
 pub length-opened : (p : Plan) (es : List Entry) → length es ≤ mostRecords → length (areaOf (opened p es)) ≡ areaLength
 unfolding areaOf
 length-opened p es h = simp (length-append, length-header, length-records, length-replicate) (omega arith)
+
+-- a part of zeros
+pub part-zeros : (at k n : ℕ) → at + k ≤ n → part at k (zeros n) ≡ zeros k
+unfolding part
+part-zeros at k n fits =
+    ext-getD 0 _ _ (simp (length-take, length-drop, length-replicate) (omega arith))
+    (λ i l.
+    let below : i < k = omega (arith, simp (length-take) at l) in
+    let inside : at + i < n = omega arith in
+    rw (
+      getD-take k (drop at (zeros n)) i 0 below,
+      getD-drop at (zeros n) i 0,
+      getD-replicate {A = ℕ} n (at + i) 0 0 inside,
+      getD-replicate {A = ℕ} k i 0 0 below,
+    ))
 
 -- ---- the header
 
@@ -88,19 +104,46 @@ words-of n ns t =
     let parts = both-of (ltb n (2 ^ 32)) (allWords ns) t in
     (value-bytes 4 (ltb→lt n (2 ^ 32) (parts .0)), parts .1)
 
-pub entry-read : (p : Plan) (f : Figures) (count : ℕ) (e : Entry) → firstOf (entryRefusals p f count e) ≡ 0
+-- a recording's two numbers are words
+unfoldable areWords : Recording → Bool
+areWords rec = allWords (rec .number ∷ rec .second ∷ [])
+
+zeros-are-words : T (areWords noRecording)
+unfolding areWords allWords
+zeros-are-words = tt
+
+recording-words : (e : Entry) → T (allWords (entryArguments e)) → T (areWords (recordOf e .recording))
+unfolding entryArguments recordOf areWords
+recording-words (Lot label N n d D rec) t =
+    words-of D _ (words-of d _ (words-of n _ (words-of N _ (words-of label _ t .1) .1) .1) .1) .1
+recording-words (Run h w rec) t = words-of w _ (words-of h _ t .1) .1
+recording-words (Block q w rec) t = words-of w _ (words-of q _ t .1) .1
+recording-words (Stop why days) t = zeros-are-words
+
+-- a recording is got back from its eight bytes
+pub recording-read : (e : Entry) → T (allWords (entryArguments e))
+    → recordingIn (recordingBytes (recordOf e .recording)) ≡ recordOf e .recording
+unfolding recordingIn recordingBytes part bytes areWords
+recording-read e t =
+    let first = words-of (recordOf e .recording .number) _ (recording-words e t) in
+    let second = words-of (recordOf e .recording .second) _ (first .1) in
+    λ i. record { number = first .0 i; second = second .0 i }
+
+pub entry-read : (p : Plan) (f : Figures) (count : ℕ) (e : Entry) → firstOf (ruleRefusals p f count e) ≡ 0
     → T (allWords (entryArguments e)) → entryOf p f (recordIn (recordBytes (recordOf e))) ≡ e
-unfolding entryOf recordIn recordOf recordBytes part bytes entryArguments
-entry-read p f count (Lot label N n d D) h t =
-    let first = words-of label (N ∷ n ∷ d ∷ D ∷ []) t in
-    let second = words-of N (n ∷ d ∷ D ∷ []) (first .1) in
-    let third = words-of n (d ∷ D ∷ []) (second .1) in
-    let fourth = words-of d (D ∷ []) (third .1) in
-    let fifth = words-of D [] (fourth .1) in
-    let allowed = allowed-lot p f count label N n d D h in
+unfolding entryOf recordingIn recordIn recordOf recordingBytes recordBytes part bytes entryArguments
+entry-read p f count (Lot label N n d D rec) h t =
+    let first = words-of label _ t in
+    let second = words-of N _ (first .1) in
+    let fourth = words-of d _ (words-of n _ (second .1) .1) in
+    let fifth = words-of D _ (fourth .1) in
+    let recorded = recording-read (Lot label N n d D rec) t in
+    let allowed = allowed-lot p f count label N n d D rec h in
     cc
-entry-read p f count (Run h w) e t = ap (λ (n : ℕ). Run n w) (words-of h (w ∷ []) t .0)
-entry-read p f count (Block q w) e t = ap (λ (n : ℕ). Block n w) (words-of q (w ∷ []) t .0)
+entry-read p f count (Run h w rec) e t =
+    ap₂ (λ (n : ℕ) (r : Recording). Run n w r) (words-of h _ t .0) (recording-read (Run h w rec) t)
+entry-read p f count (Block q w rec) e t =
+    ap₂ (λ (n : ℕ) (r : Recording). Block n w r) (words-of q _ t .0) (recording-read (Block q w rec) t)
 entry-read p f count (Stop why days) e t = ap (λ (n : ℕ). Stop why n) (words-of days [] (words-of why (days ∷ []) t .1) .0)
 
 -- the newest of the records is read where it stands
@@ -118,7 +161,7 @@ entries-read p (e ∷ es) rest t =
     let newest = newest-of p e es t in
     let others = entries-read p es (recordBytes (recordOf e) ++ rest) (newest .others) in
     rw (append-assoc (recordsOf es) (recordBytes (recordOf e)) rest, others, part-record e es rest)
-    (ap (λ (e : Entry). e ∷ es) (entry-read p (figuresOf p es) (length es) e (newest .accepted) (newest .words)))
+    (ap (λ (e : Entry). e ∷ es) (entry-read p (figuresOf p es) (length es) e (newest .allowed) (newest .words)))
 
 -- ---- the whole area
 

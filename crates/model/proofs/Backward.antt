@@ -18,6 +18,7 @@ use Rattle.plans.specs.declared.level.LevelState.{LevelState}
 use Rattle.plans.specs.declared.continuous.Continuous.{Continuous}
 use Rattle.plans.proofs.Booleans.{either}
 use Rattle.model.specs.declared.Plan.{Plan}
+use Rattle.model.specs.declared.Recording.{Recording}
 use Rattle.model.specs.declared.Entry.{Entry}
 use Rattle.model.specs.declared.Entry.the-variants.{Lot, Run, Block, Stop}
 use Rattle.model.specs.Stations.{isCredit, isLevel, isContinuous, hasOption, validPlan}
@@ -40,10 +41,10 @@ credit-lot false K N d since newer more e = e
 pub credit-backward : (p : Plan) (es : List Entry) → figuresOf p es .credit .0 ≡ cond (isCredit p) (creditBack es) 0
 unfolding figuresOf started stepped creditStep creditBack sinceWrongLot isWrongLot sizes sizeOf
 credit-backward p [] = either (λ (x : ℕ). 0 ≡ x) (isCredit p) refl refl
-credit-backward p (Lot label N n d D ∷ es) =
-    credit-lot (isCredit p) (figuresOf p es .credit .0) N d (sinceWrongLot es) (Lot label N n d D ∷ sinceWrongLot es) refl (credit-backward p es)
-credit-backward p (Run h w ∷ es) = rw zero-add (credit-backward p es)
-credit-backward p (Block q w ∷ es) = rw zero-add (credit-backward p es)
+credit-backward p (Lot label N n d D rec ∷ es) =
+    credit-lot (isCredit p) (figuresOf p es .credit .0) N d (sinceWrongLot es) (Lot label N n d D rec ∷ sinceWrongLot es) refl (credit-backward p es)
+credit-backward p (Run h w rec ∷ es) = rw zero-add (credit-backward p es)
+credit-backward p (Block q w rec ∷ es) = rw zero-add (credit-backward p es)
 credit-backward p (Stop why days ∷ es) = rw zero-add (credit-backward p es)
 
 -- ---- withheld marks
@@ -66,21 +67,21 @@ unfolding withheldMark
 mark-within es j =
     either (λ (x : ℕ). x ≤ 1) (ltb j (length (lotsWrong es)) && getD (lotsWrong es) j false) (omega arith) (omega arith)
 
-module _ (label N n d D : ℕ) (es : List Entry) where
-  mark-newest : withheldMark (Lot label N n d D ∷ es) 0 ≡ cond (ltb 0 d) 1 0
+module _ (label N n d D : ℕ) (rec : Recording) (es : List Entry) where
+  mark-newest : withheldMark (Lot label N n d D rec ∷ es) 0 ≡ cond (ltb 0 d) 1 0
   unfolding withheldMark lotsWrong
   mark-newest = rw (lt-ltb 0 (suc (length (lotsWrong es))) (omega arith))
 
-  mark-before : (j : ℕ) → withheldMark (Lot label N n d D ∷ es) (suc j) ≡ withheldMark es j
+  mark-before : (j : ℕ) → withheldMark (Lot label N n d D rec ∷ es) (suc j) ≡ withheldMark es j
   unfolding withheldMark lotsWrong
   mark-before j = rw (leb·suc-suc (suc j) (length (lotsWrong es)))
 
   -- with one lot more, the marks worked out backwards move up by one
-  window-lot : windowBack (Lot label N n d D ∷ es) ≡ shifted (ltb 0 d) (windowBack es)
+  window-lot : windowBack (Lot label N n d D rec ∷ es) ≡ shifted (ltb 0 d) (windowBack es)
   unfolding windowBack shifted
   window-lot =
       rw (mark-before 0, mark-before 1, mark-before 2, mark-before 3)
-      (omega (arith, mark-newest, mark-within (Lot label N n d D ∷ es) 0, mark-within es 0, mark-within es 1, mark-within es 2, mark-within es 3))
+      (omega (arith, mark-newest, mark-within (Lot label N n d D rec ∷ es) 0, mark-within es 0, mark-within es 1, mark-within es 2, mark-within es 3))
 
 -- only a level stream's window follows an entry
 window-of : (level : Bool) (s after : LevelState) (W X : ℕ) → s .window ≡ cond level W 0
@@ -91,12 +92,12 @@ window-of false s after W X e follows = e
 pub window-backward : (p : Plan) (es : List Entry) → figuresOf p es .level .window ≡ cond (isLevel p) (windowBack es) 0
 unfolding figuresOf started stepped levelStep levelStart noLevel windowBack withheldMark lotsWrong
 window-backward p [] = window-of (isLevel p) noLevel levelStart 0 0 (either (λ (x : ℕ). 0 ≡ x) (isLevel p) refl refl) (λ e. refl)
-window-backward p (Lot label N n d D ∷ es) =
+window-backward p (Lot label N n d D rec ∷ es) =
     let s : LevelState = figuresOf p es .level in
-    window-of (isLevel p) s (judgedLot (hasOption p) (ltb 0 d) s) (windowBack es) (windowBack (Lot label N n d D ∷ es)) (window-backward p es)
-    (λ e. judged-window (hasOption p) (ltb 0 d) s ∙ ap (shifted (ltb 0 d)) e ∙ sym (window-lot label N n d D es))
-window-backward p (Run h w ∷ es) = window-backward p es
-window-backward p (Block q w ∷ es) = window-backward p es
+    window-of (isLevel p) s (judgedLot (hasOption p) (ltb 0 d) s) (windowBack es) (windowBack (Lot label N n d D rec ∷ es)) (window-backward p es)
+    (λ e. judged-window (hasOption p) (ltb 0 d) s ∙ ap (shifted (ltb 0 d)) e ∙ sym (window-lot label N n d D rec es))
+window-backward p (Run h w rec ∷ es) = window-backward p es
+window-backward p (Block q w rec ∷ es) = window-backward p es
 window-backward p (Stop why days ∷ es) =
     let s : LevelState = figuresOf p es .level in
     window-of (isLevel p) s (metStop why days s) (windowBack es) (windowBack es) (window-backward p es)
@@ -105,9 +106,9 @@ window-backward p (Stop why days ∷ es) =
 pub level-foreign : (p : Plan) (es : List Entry) → isLevel p ≡ false → figuresOf p es .level ≡ noLevel
 unfolding figuresOf started stepped levelStep
 level-foreign p [] e = rw e
-level-foreign p (Lot label N n d D ∷ es) e = rw e (level-foreign p es e)
-level-foreign p (Run h w ∷ es) e = level-foreign p es e
-level-foreign p (Block q w ∷ es) e = level-foreign p es e
+level-foreign p (Lot label N n d D rec ∷ es) e = rw e (level-foreign p es e)
+level-foreign p (Run h w rec ∷ es) e = level-foreign p es e
+level-foreign p (Block q w rec ∷ es) e = level-foreign p es e
 level-foreign p (Stop why days ∷ es) e = rw e (level-foreign p es e)
 
 -- ---- continuous
@@ -137,18 +138,18 @@ module _ (i g : ℕ) where
         go true = refl
         go false = refl
 
-    after-run : (h w : ℕ) → isSampling s ≡ false
-        → StateBack i g (cond (eqb (s .count + h) i) (sampling 0) (screening (s .count + h))) (Run h w ∷ since)
+    after-run : (h w : ℕ) (rec : Recording) → isSampling s ≡ false
+        → StateBack i g (cond (eqb (s .count + h) i) (sampling 0) (screening (s .count + h))) (Run h w rec ∷ since)
     unfolding runs runsOf tailOfLast screening
-    after-run h w screened =
+    after-run h w rec screened =
         let phase : eqb (runs since) i ≡ false = sym phase-back ∙ screened in
         let tail : tailOfLast g since ≡ 0 = known .noTail phase in
         let count : s .count ≡ runs since = rw (known .state, phase) in
         record { state = rw (count, tail, add-comm h (runs since)); noTail = λ e. tail }
 
-    after-block : (q w : ℕ) → isSampling s ≡ true → StateBack i g (sampling (g - q)) (Block q w ∷ since)
+    after-block : (q w : ℕ) (rec : Recording) → isSampling s ≡ true → StateBack i g (sampling (g - q)) (Block q w rec ∷ since)
     unfolding runs runsOf tailOfLast
-    after-block q w sampled =
+    after-block q w rec sampled =
         let phase : eqb (runs since) i ≡ true = sym phase-back ∙ sampled in
         record { state = rw (zero-add, phase); noTail = λ e. absurd (never-both _ phase (rw zero-add at e)) }
 
@@ -164,19 +165,19 @@ module _ (p : Plan) (valid : T (validPlan p)) (e : isContinuous p ≡ true) wher
       → StateBack (p .a) (p .b) (figuresOf p es .continuous) (sinceBreaker (p .a) es)
   unfolding figuresOf started stepped continuousStep afterRun afterBlock afterStop setUpChanged longStop sinceBreaker samplingBack breaks
   state-back [] ok = broken (p .a) (p .b) positive
-  state-back (Lot label N n d D ∷ es) ok =
-      let newest = newest-of p (Lot label N n d D) es ok in
-      absurd (never-both (isContinuous p) e (allowed-lot p (figuresOf p es) (length es) label N n d D (newest .accepted) .lots))
-  state-back (Run h w ∷ es) ok =
-      let newest = newest-of p (Run h w) es ok in
-      let allowed = allowed-run p (figuresOf p es) (length es) h w (newest .accepted) in
+  state-back (Lot label N n d D rec ∷ es) ok =
+      let newest = newest-of p (Lot label N n d D rec) es ok in
+      absurd (never-both (isContinuous p) e (allowed-lot p (figuresOf p es) (length es) label N n d D rec (newest .allowed) .lots))
+  state-back (Run h w rec ∷ es) ok =
+      let newest = newest-of p (Run h w rec) es ok in
+      let allowed = allowed-run p (figuresOf p es) (length es) h w rec (newest .allowed) in
       broken-or (p .a) (p .b) positive (eqb w 1) _ _
-      (after-run (p .a) (p .b) _ _ (state-back es (newest .others)) h w (allowed .screened))
-  state-back (Block q w ∷ es) ok =
-      let newest = newest-of p (Block q w) es ok in
-      let allowed = allowed-block p (figuresOf p es) (length es) q w (newest .accepted) in
+      (after-run (p .a) (p .b) _ _ (state-back es (newest .others)) h w rec (allowed .screened))
+  state-back (Block q w rec ∷ es) ok =
+      let newest = newest-of p (Block q w rec) es ok in
+      let allowed = allowed-block p (figuresOf p es) (length es) q w rec (newest .allowed) in
       broken-or (p .a) (p .b) positive (eqb w 1) _ _
-      (after-block (p .a) (p .b) _ _ (state-back es (newest .others)) q w (allowed .sampled))
+      (after-block (p .a) (p .b) _ _ (state-back es (newest .others)) q w rec (allowed .sampled))
   state-back (Stop why days ∷ es) ok =
       let known = state-back es (newest-of p (Stop why days) es ok .others) in
       rw (e, phase-back (p .a) (p .b) _ _ known)
@@ -193,13 +194,13 @@ pub continuous-foreign : (p : Plan) (es : List Entry) → T (admissible p es) �
     → figuresOf p es .continuous ≡ screening 0
 unfolding figuresOf started stepped continuousStep
 continuous-foreign p [] ok e = refl
-continuous-foreign p (Lot label N n d D ∷ es) ok e = continuous-foreign p es (newest-of p (Lot label N n d D) es ok .others) e
-continuous-foreign p (Run h w ∷ es) ok e =
-    let newest = newest-of p (Run h w) es ok in
-    absurd (never-both (isContinuous p) (allowed-run p (figuresOf p es) (length es) h w (newest .accepted) .continuous) e)
-continuous-foreign p (Block q w ∷ es) ok e =
-    let newest = newest-of p (Block q w) es ok in
-    absurd (never-both (isContinuous p) (allowed-block p (figuresOf p es) (length es) q w (newest .accepted) .continuous) e)
+continuous-foreign p (Lot label N n d D rec ∷ es) ok e = continuous-foreign p es (newest-of p (Lot label N n d D rec) es ok .others) e
+continuous-foreign p (Run h w rec ∷ es) ok e =
+    let newest = newest-of p (Run h w rec) es ok in
+    absurd (never-both (isContinuous p) (allowed-run p (figuresOf p es) (length es) h w rec (newest .allowed) .continuous) e)
+continuous-foreign p (Block q w rec ∷ es) ok e =
+    let newest = newest-of p (Block q w rec) es ok in
+    absurd (never-both (isContinuous p) (allowed-block p (figuresOf p es) (length es) q w rec (newest .allowed) .continuous) e)
 continuous-foreign p (Stop why days ∷ es) ok e =
     rw e (continuous-foreign p es (newest-of p (Stop why days) es ok .others) e)
 

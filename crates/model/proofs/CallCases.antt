@@ -46,13 +46,16 @@ use Rattle.model.specs.Figuring.{
   stepped,
   figuresOf,
 }
-use Rattle.model.specs.Records.{recordBytes, recordIn, recordOf, entryOf}
+use Rattle.model.specs.Records.{recordingBytes, recordBytes, recordingIn, recordIn, recordOf, entryOf}
 use Rattle.model.specs.Calls.{
   firstOf,
   isDiscontinued,
   isFull,
   sizeInRange,
   countsAgree,
+  ruleRefusals,
+  bringsRecording,
+  lacksRecording,
   entryRefusals,
   accepts,
   askRefusals,
@@ -62,6 +65,7 @@ use Rattle.model.specs.Calls.{
   readFigure,
   entryAnswer,
   newestKind,
+  newestOf,
   answerOf,
   withoutNewest,
   changed,
@@ -81,7 +85,7 @@ use Rattle.model.specs.Area.{
   reading,
   onArea,
 }
-use Rattle.model.specs.Store.{fresh, areaAt, onStream, onStore, storeAfter, answersTo}
+use Rattle.model.specs.Store.{fresh, areaAt, onStream, onStore, storeAfter, answersTo, newestPart, newestRecords}
 use Rattle.model.specs.Claims.{onAll}
 use Rattle.model.specs.Cases.{
   callsOf,
@@ -91,6 +95,8 @@ use Rattle.model.specs.Cases.{
   agreedCase,
   creditEdges,
   continuousEdges,
+  recordingEdges,
+  recordingInTurn,
   answersOf,
   frameCase,
   creditCase,
@@ -105,6 +111,7 @@ use Rattle.model.specs.Cases.{
   creditArea,
   levelArea,
   continuousArea,
+  threeStand,
   CasesHold,
 }
 
@@ -116,11 +123,11 @@ unfolding
     levelAfter moved judgedLot metStop screening sampling isSampling afterRun afterBlock afterStop bytes value part written
     isCredit isLevel isContinuous hasOption within validPlan entryArguments allWords
     noLevel started sampleAsked verdictOn acceptedBy creditStep levelStep continuousStep isLot labelOf stepped figuresOf
-    firstOf isDiscontinued isFull sizeInRange countsAgree entryRefusals accepts askRefusals refusals refusalOf lotFigure readFigure
-    entryAnswer newestKind answerOf withoutNewest changed call admissible admissibleStation
-    recordBytes recordIn recordOf entryOf headerOf recordsOf areaOf planIn countIn entriesIn stationIn sameBytes
-    reading onArea fresh areaAt onStream onStore storeAfter answersTo onAll callsOf answersOf
-    frameCase creditCase levelCase strictCase continuousCase acceptedLots reducedCase wrongLots takenBack discontinuedCase stationAnswers notPermitted fiveBeatTen agreedCase creditEdges continuousEdges
-    creditArea levelArea continuousArea
+    firstOf isDiscontinued isFull sizeInRange countsAgree ruleRefusals bringsRecording lacksRecording entryRefusals accepts askRefusals refusals refusalOf lotFigure readFigure
+    entryAnswer newestKind newestOf answerOf withoutNewest changed call admissible admissibleStation
+    recordingBytes recordBytes recordingIn recordIn recordOf entryOf headerOf recordsOf areaOf planIn countIn entriesIn stationIn sameBytes
+    reading onArea fresh areaAt onStream onStore storeAfter answersTo newestPart newestRecords onAll callsOf answersOf
+    frameCase creditCase levelCase strictCase continuousCase acceptedLots reducedCase wrongLots takenBack discontinuedCase stationAnswers notPermitted fiveBeatTen agreedCase creditEdges continuousEdges recordingEdges recordingInTurn
+    creditArea levelArea continuousArea threeStand
 cases-hold =
-    (refl, refl, refl, refl, refl, refl, refl, refl, refl, refl, refl, refl, refl, refl, (refl, refl), (refl, refl, refl, refl, refl), (refl, refl, refl))
+    (refl, refl, refl, refl, refl, refl, refl, refl, refl, refl, refl, refl, refl, refl, refl, refl, (refl, refl), (refl, refl, refl, refl, refl, refl), (refl, refl, refl), (refl, refl, refl, refl, refl))

@@ -1,6 +1,6 @@
 -- Demand 3: the claim EveryList, one statement over every list of calls. For one stream it keeps `Holds`, over a call on the stream
 -- and over a call on another. Assumes nothing.
-use Prim.Native.Nat.{ℕ, _+_, _≤_, _<_}
+use Prim.Native.Nat.{ℕ, _+_, _*_, _-_, _<_}
 use mathlib.Core.Path.{_≡_, refl, sym, ap, ap₂, _∙_}
 use mathlib.Core.Bool.{Bool, true, false, cond, _&&_}
 use mathlib.Core.List.{List, [], _∷_, _++_}
@@ -13,17 +13,20 @@ use Rattle.little.specs.Little.{part}
 use Rattle.model.specs.declared.Plan.{Plan}
 use Rattle.model.specs.declared.Entry.{Entry}
 use Rattle.model.specs.declared.Call.{Call}
-use Rattle.model.specs.declared.Call.the-variants.{Open, Enter, Back, Ask, Read}
+use Rattle.model.specs.declared.Call.the-variants.{Open, Enter, Back, Ask, Read, Newest}
 use Rattle.model.specs.declared.Answer.{Answer}
-use Rattle.model.specs.Sizes.{areaLength, streams, storeLength, startOf}
+use Rattle.model.specs.declared.Part.{Part}
+use Rattle.model.specs.Sizes.{recordLength, headerLength, areaLength, streams, storeLength, startOf}
 use Rattle.model.specs.Stations.{Station, unopened, opened, arguments, allWords}
-use Rattle.model.specs.Calls.{firstOf, refusals, refusalOf, changed, withoutNewest, call, admissible, admissibleStation}
+use Rattle.model.specs.Calls.{firstOf, refusals, refusalOf, newestOf, changed, withoutNewest, call, admissible, admissibleStation}
 use Rattle.model.specs.Area.{zeros, areaOf, onArea}
-use Rattle.model.specs.Store.{Request, fresh, areaAt, onStore, storeAfter, answersTo}
-use Rattle.model.specs.Claims.{history, afterAccepted, afterPastCall, standing, on, reentered, remade, AllTaken, onAll, areWords, there, StationBackward, EveryList}
+use Rattle.model.specs.Store.{Request, fresh, areaAt, onStore, storeAfter, answersTo, newestRecords}
+use Rattle.model.specs.Claims.{history, afterAccepted, afterPastCall, standing, on, reentered, remade, AllTaken, onAll, areWords, there, newestBytes, StationBackward, EveryList}
 use Rattle.model.proofs.Booleans.{both-of}
-use Rattle.model.proofs.Allowed.{Newest, newest-of}
-use Rattle.model.proofs.AreaReading.{reading-of-area}
+use Rattle.model.proofs.Allowed.{NewestEntry, newest-of, count-within}
+use Rattle.model.proofs.AreaReading.{reading-of-area, part-zeros}
+use Rattle.model.proofs.NewestRecords.{newest-in-area, shut-part, opened-records, part-of-its-area}
+use Rattle.model.proofs.Recordings.{recordings-stand}
 use Rattle.model.proofs.Keeping.{
   accepted-station,
   answer-refusal,
@@ -82,12 +85,14 @@ accepted-changes unopened (Enter x) e = refl
 accepted-changes unopened Back e = refl
 accepted-changes unopened (Ask N) e = refl
 accepted-changes unopened Read e = refl
+accepted-changes unopened (Newest n) e = refl
 accepted-changes (opened p es) (Open q) e = absurd (omega arith)
 accepted-changes (opened p es) (Enter x) e = refl
 accepted-changes (opened p []) Back e = refl
 accepted-changes (opened p (x ∷ es)) Back e = refl
 accepted-changes (opened p es) (Ask N) e = refl
 accepted-changes (opened p es) Read e = refl
+accepted-changes (opened p es) (Newest n) e = refl
 
 -- the station after a call is what the call and its refusal number make of the standing list
 stands-after : (st : Station) (c : Call) → call st c .station ≡ cond (eqb (call st c .answer .refusal) 0) (afterAccepted c st) st
@@ -130,20 +135,6 @@ module _ (stream : ℕ) (known : stream < streams) where
       (words .1)
 
 -- a fresh store holds an unopened station everywhere
-part-zeros : (at k n : ℕ) → at + k ≤ n → part at k (zeros n) ≡ zeros k
-unfolding part
-part-zeros at k n fits =
-    ext-getD 0 _ _ (simp (length-take, length-drop, length-replicate) (omega arith))
-    (λ i l.
-    let below : i < k = omega (arith, simp (length-take) at l) in
-    let inside : at + i < n = omega arith in
-    rw (
-      getD-take k (drop at (zeros n)) i 0 below,
-      getD-drop at (zeros n) i 0,
-      getD-replicate {A = ℕ} n (at + i) 0 0 inside,
-      getD-replicate {A = ℕ} k i 0 0 below,
-    ))
-
 fresh-holds : (stream : ℕ) → stream < streams → Holds fresh stream unopened
 unfolding fresh areaAt areaOf admissibleStation
 fresh-holds stream known =
@@ -190,7 +181,7 @@ module _ (stream : ℕ) (known : stream < streams) where
         taken = all-taken store first second (a .taken) (b .taken);
       }
 
-  entry-leaves : (store : List ℕ) (p : Plan) (e : Entry) (es : List Entry) → Holds store stream (opened p es) → Newest p e es
+  entry-leaves : (store : List ℕ) (p : Plan) (e : Entry) (es : List Entry) → Holds store stream (opened p es) → NewestEntry p e es
       → Leaves stream store (on stream (Enter e) ∷ []) (opened p (e ∷ es))
   unfolding changed refusalOf refusals arguments
   entry-leaves store p e es h last = leaves-call store (opened p es) (Enter e) h (last .words) (last .accepted)
@@ -232,6 +223,29 @@ station-backward unopened area t e = e
 station-backward (opened p es) area t e =
     rw e (figures-backward p es (plan-of p es t) (entries-of p es t))
 
+-- and the newest records that they hand back are the same
+same-after : (stream : ℕ) (more : List Call) (store other : List ℕ) → length other ≡ length store
+    → areaAt stream other ≡ areaAt stream store → (n : ℕ)
+    → newestRecords (storeAfter other (onAll stream more)) stream n ≡ newestRecords (storeAfter store (onAll stream more)) stream n
+unfolding storeAfter onAll
+same-after stream [] store other l a n = part-of-its-area store stream n .readsNoOther other l a
+same-after stream (c ∷ more) store other l a n =
+    let alike = keeps-to-its-area store (on stream c) .readsNoOther other l a in
+    let length-kept = keeps-to-its-area other (on stream c) .sameLength ∙ l ∙ sym (keeps-to-its-area store (on stream c) .sameLength) in
+    same-after stream more (onStore store (on stream c) .store) (onStore other (on stream c) .store) length-kept (alike .1) n
+
+-- the newest records of a store that holds a station
+newest-held : (store : List ℕ) (stream n : ℕ) → stream < streams → (st : Station) → Holds store stream st
+    → newestRecords store stream n ≡ newestBytes n st
+unfolding newestRecords newestBytes part
+newest-held store stream n known unopened h =
+    ap (λ (q : Part). part (q .offset) (q .length) store)
+    (shut-part store stream n (h .sized) known (rw (h .held) (reading-of-area unopened (h .kept))))
+newest-held store stream n known (opened p es) h =
+    opened-records store stream n (h .sized) known p es (rw (h .held) (reading-of-area (opened p es) (h .kept)))
+    ∙ ap (part (headerLength + recordLength * (length es - newestOf n es)) (recordLength * newestOf n es)) (h .held)
+    ∙ newest-in-area p es n (count-within p es (entries-of p es (h .kept)))
+
 -- demand 3
 pub every-list : EveryList
 unfolding there
@@ -243,6 +257,9 @@ every-list calls words stream known =
       sameArea = same;
       taken = there-left .taken;
       answersAlike = λ more. same-answers stream more _ _ (holds-here .sized ∙ sym (there-left .left .sized)) same;
+      newestAlike = λ more. same-after stream more _ _ (holds-here .sized ∙ sym (there-left .left .sized)) same;
+      newestStand = λ n. newest-held _ stream n known _ holds-here;
+      recordings = λ i room. rw (holds-here .held) (recordings-stand _ (holds-here .kept) i room);
       backwards = station-backward _ _ (holds-here .kept) (holds-here .held);
       standsThere = holds-here .held;
       byTheRules = λ c. own-answer stream known _ _ c holds-here;

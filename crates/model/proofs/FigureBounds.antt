@@ -22,10 +22,11 @@ use Rattle.model.specs.declared.Plan.{Plan}
 use Rattle.model.specs.declared.Entry.{Entry}
 use Rattle.model.specs.declared.Entry.the-variants.{Lot, Run, Block, Stop}
 use Rattle.model.specs.declared.Figures.{Figures}
+use Rattle.model.specs.declared.Recording.{Recording}
 use Rattle.model.specs.Stations.{isCredit, isLevel, isContinuous, hasOption, validPlan}
 use Rattle.model.specs.Figuring.{noLevel, started, verdictOn, acceptedBy, creditStep, levelStep, continuousStep, isLot, labelOf, stepped, figuresOf}
 use Rattle.model.specs.FigureBounds.{FiguresWithin}
-use Rattle.model.specs.Calls.{firstOf, entryRefusals, sizeInRange, admissible}
+use Rattle.model.specs.Calls.{firstOf, ruleRefusals, sizeInRange, admissible}
 use Rattle.model.proofs.Booleans.{within-of}
 use Rattle.model.proofs.Allowed.{AllowedLot, AllowedRun, AllowedBlock, allowed-lot, allowed-run, allowed-block, newest-of, continuous-plan}
 
@@ -94,10 +95,10 @@ stop-within p why days s h =
     h
 
 module _ (p : Plan) (f : Figures) (n : ℕ) (known : FiguresWithin n f) where
-  lot-entered : (label N m d D : ℕ) → AllowedLot p f n label N m d D
-      → FiguresWithin (suc n) (stepped p (Lot label N m d D) f)
+  lot-entered : (label N m d D : ℕ) (rec : Recording) → AllowedLot p f n label N m d D
+      → FiguresWithin (suc n) (stepped p (Lot label N m d D rec) f)
   unfolding stepped creditStep levelStep continuousStep acceptedBy isLot labelOf
-  lot-entered label N m d D allowed =
+  lot-entered label N m d D rec allowed =
       let size : N ≤ largestLot = lot-size-range p N (allowed .size) .1 in
       record {
         credits =
@@ -125,19 +126,19 @@ module _ (p : Plan) (f : Figures) (n : ℕ) (known : FiguresWithin n f) where
         acceptedIn = omega arith;
       }
 
-  run-entered : T (validPlan p) → (h w : ℕ) → AllowedRun p f n h w → FiguresWithin (suc n) (stepped p (Run h w) f)
+  run-entered : T (validPlan p) → (h w : ℕ) (rec : Recording) → AllowedRun p f n h w → FiguresWithin (suc n) (stepped p (Run h w rec) f)
   unfolding stepped creditStep levelStep continuousStep acceptedBy isLot
-  run-entered valid h w allowed =
+  run-entered valid h w rec allowed =
       let plan = continuous-plan p valid (allowed .continuous) in
-      no-lot-entered (stepped p (Run h w) f) refl (omega arith)
+      no-lot-entered (stepped p (Run h w rec) f) refl (omega arith)
       (run-within (p .a) h w (f .continuous) (omega arith))
       (omega arith)
 
-  block-entered : T (validPlan p) → (q w : ℕ) → AllowedBlock p f n q w → FiguresWithin (suc n) (stepped p (Block q w) f)
+  block-entered : T (validPlan p) → (q w : ℕ) (rec : Recording) → AllowedBlock p f n q w → FiguresWithin (suc n) (stepped p (Block q w rec) f)
   unfolding stepped creditStep levelStep continuousStep acceptedBy isLot
-  block-entered valid q w allowed =
+  block-entered valid q w rec allowed =
       let plan = continuous-plan p valid (allowed .continuous) in
-      no-lot-entered (stepped p (Block q w) f) refl (omega arith)
+      no-lot-entered (stepped p (Block q w rec) f) refl (omega arith)
       (block-within (p .b) q w (f .continuous) (plan .intervalMost))
       (omega (arith, block-accepts (p .b) q w (f .continuous) (allowed .last)))
 
@@ -150,12 +151,12 @@ module _ (p : Plan) (f : Figures) (n : ℕ) (known : FiguresWithin n f) where
       (omega arith)
 
 -- an accepted entry
-pub stepped-within : (p : Plan) (e : Entry) (f : Figures) (n : ℕ) → T (validPlan p) → firstOf (entryRefusals p f n e) ≡ 0
+pub stepped-within : (p : Plan) (e : Entry) (f : Figures) (n : ℕ) → T (validPlan p) → firstOf (ruleRefusals p f n e) ≡ 0
     → FiguresWithin n f → FiguresWithin (suc n) (stepped p e f)
-stepped-within p (Lot label N m d D) f n valid taken known =
-    lot-entered p f n known label N m d D (allowed-lot p f n label N m d D taken)
-stepped-within p (Run h w) f n valid taken known = run-entered p f n known valid h w (allowed-run p f n h w taken)
-stepped-within p (Block q w) f n valid taken known = block-entered p f n known valid q w (allowed-block p f n q w taken)
+stepped-within p (Lot label N m d D rec) f n valid taken known =
+    lot-entered p f n known label N m d D rec (allowed-lot p f n label N m d D rec taken)
+stepped-within p (Run h w rec) f n valid taken known = run-entered p f n known valid h w rec (allowed-run p f n h w rec taken)
+stepped-within p (Block q w rec) f n valid taken known = block-entered p f n known valid q w rec (allowed-block p f n q w rec taken)
 stepped-within p (Stop why days) f n valid taken known = stop-entered p f n known why days
 
 -- ---- the standing entries
@@ -177,4 +178,4 @@ unfolding figuresOf
 figures-within p [] valid ok = started-within p
 figures-within p (e ∷ es) valid ok =
     let newest = newest-of p e es ok in
-    stepped-within p e (figuresOf p es) (length es) valid (newest .accepted) (figures-within p es valid (newest .others))
+    stepped-within p e (figuresOf p es) (length es) valid (newest .allowed) (figures-within p es valid (newest .others))

@@ -11,7 +11,7 @@ use Rattle.model.specs.declared.Plan.{Plan}
 use Rattle.model.specs.declared.Entry.{Entry}
 use Rattle.model.specs.declared.Entry.the-variants.{Lot, Run, Block, Stop}
 use Rattle.model.specs.declared.Call.{Call}
-use Rattle.model.specs.declared.Call.the-variants.{Open, Enter, Back, Ask, Read}
+use Rattle.model.specs.declared.Call.the-variants.{Open, Enter, Back, Ask, Read, Newest}
 use Rattle.model.specs.declared.Figures.{Figures}
 use Rattle.model.specs.Stations.{Station, unopened, opened, validPlan, arguments, entryArguments, allWords}
 use Rattle.model.specs.Figuring.{figuresOf}
@@ -39,9 +39,9 @@ module _ (st : Station) (c : Call) where
 
 entry-taken : (p : Plan) (f : Figures) (e : Entry) → entryAnswer p f e .refusal ≡ 0
 unfolding entryAnswer
-entry-taken p f (Lot label N n d D) = refl
-entry-taken p f (Run h w) = refl
-entry-taken p f (Block q w) = refl
+entry-taken p f (Lot label N n d D rec) = refl
+entry-taken p f (Run h w rec) = refl
+entry-taken p f (Block q w rec) = refl
 entry-taken p f (Stop why days) = refl
 
 answer-taken : (st : Station) (c : Call) → answerOf st c .refusal ≡ 0
@@ -52,6 +52,7 @@ answer-taken (opened p es) (Enter e) = entry-taken p (figuresOf p es) e
 answer-taken (opened p es) Back = refl
 answer-taken (opened p es) (Ask N) = refl
 answer-taken (opened p es) Read = refl
+answer-taken (opened p es) (Newest n) = refl
 
 -- the refusal number of the answer is that of the call
 pub answer-refusal : (st : Station) (c : Call) → call st c .answer .refusal ≡ refusalOf st c
@@ -107,6 +108,7 @@ changed-admissible unopened (Enter x) h w e = h
 changed-admissible unopened Back h w e = h
 changed-admissible unopened (Ask N) h w e = h
 changed-admissible unopened Read h w e = h
+changed-admissible unopened (Newest n) h w e = h
 changed-admissible (opened p es) (Open q) h w e = h
 changed-admissible (opened p es) (Enter x) h w e =
     opened-admissible p (x ∷ es) (plan-of p es h) (entry-admissible p es x (entries-of p es h) e w)
@@ -115,6 +117,7 @@ changed-admissible (opened p (x ∷ es)) Back h w e =
     opened-admissible p es (plan-of p (x ∷ es) h) (newest-of p x es (entries-of p (x ∷ es) h) .others)
 changed-admissible (opened p es) (Ask N) h w e = h
 changed-admissible (opened p es) Read h w e = h
+changed-admissible (opened p es) (Newest n) h w e = h
 
 pub call-admissible : (st : Station) (c : Call) → T (admissibleStation st) → T (allWords (arguments c))
     → T (admissibleStation (call st c .station))

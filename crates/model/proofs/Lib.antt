@@ -9,5 +9,7 @@ pub mod Soundness
 pub mod FigureBounds
 pub mod Backward
 pub mod Stored
+pub mod Recordings
+pub mod NewestRecords
 pub mod EveryList
 pub mod CallCases

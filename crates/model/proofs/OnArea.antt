@@ -9,13 +9,13 @@ use lib.Dec.{T, eqb}
 use lib.ListN.{length}
 use borrow.Author.Tests.{eqb-true}
 use Rattle.model.specs.declared.Call.{Call}
-use Rattle.model.specs.declared.Call.the-variants.{Open, Enter, Back, Ask, Read}
+use Rattle.model.specs.declared.Call.the-variants.{Open, Enter, Back, Ask, Read, Newest}
 use Rattle.model.specs.Sizes.{areaLength}
 use Rattle.model.specs.Stations.{Station, unopened, opened}
 use Rattle.model.specs.Figuring.{figuresOf}
 use Rattle.model.specs.Calls.{refusals, refusalOf, refused, answerOf, withoutNewest, changed, call, admissibleStation}
 use Rattle.model.specs.Area.{areaOf, Reading, unsound, holds, reading, onArea}
-use Rattle.model.proofs.Allowed.{room-for, count-within}
+use Rattle.model.proofs.Allowed.{room-for, count-within, passed-all}
 use Rattle.model.proofs.AreaReading.{length-opened, length-unopened, area-of-reading}
 use Rattle.model.proofs.Keeping.{after-call, entries-of, answer-refusal}
 
@@ -27,14 +27,16 @@ changed-length unopened (Enter x) h e = length-unopened
 changed-length unopened Back h e = length-unopened
 changed-length unopened (Ask N) h e = length-unopened
 changed-length unopened Read h e = length-unopened
+changed-length unopened (Newest n) h e = length-unopened
 changed-length (opened p es) (Open q) h e = length-opened p es (count-within p es (entries-of p es h))
 changed-length (opened p es) (Enter x) h e =
-    length-opened p (x ∷ es) (omega (arith, room-for p (figuresOf p es) (length es) x e))
+    length-opened p (x ∷ es) (omega (arith, room-for p (figuresOf p es) (length es) x (passed-all p (figuresOf p es) (length es) x e .allowed)))
 changed-length (opened p []) Back h e = length-opened p [] (omega arith)
 changed-length (opened p (x ∷ es)) Back h e =
     length-opened p es (omega (arith, count-within p (x ∷ es) (entries-of p (x ∷ es) h)))
 changed-length (opened p es) (Ask N) h e = length-opened p es (count-within p es (entries-of p es h))
 changed-length (opened p es) Read h e = length-opened p es (count-within p es (entries-of p es h))
+changed-length (opened p es) (Newest n) h e = length-opened p es (count-within p es (entries-of p es h))
 
 pub length-station : (st : Station) → T (admissibleStation st) → length (areaOf st) ≡ areaLength
 length-station unopened h = length-unopened

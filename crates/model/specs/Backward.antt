@@ -11,9 +11,9 @@ use Rattle.model.specs.declared.Entry.the-variants.{Lot, Run, Block, Sto
 -- "Credit lots": K is the sum of N over the standing lots after the last with d > 0, over all of them without one
 
 unfoldable pub isWrongLot : Entry → Bool
-isWrongLot (Lot label N n d D) = ltb 0 d
-isWrongLot (Run h w) = false
-isWrongLot (Block q w) = false
+isWrongLot (Lot label N n d D rec) = ltb 0 d
+isWrongLot (Run h w rec) = false
+isWrongLot (Block q w rec) = false
 isWrongLot (Stop why days) = false
 
 unfoldable pub sinceWrongLot : List Entry → List Entry
@@ -21,9 +21,9 @@ sinceWrongLot [] = []
 sinceWrongLot (e ∷ es) = cond (isWrongLot e) [] (e ∷ sinceWrongLot es)
 
 unfoldable pub sizeOf : Entry → ℕ
-sizeOf (Lot label N n d D) = N
-sizeOf (Run h w) = 0
-sizeOf (Block q w) = 0
+sizeOf (Lot label N n d D rec) = N
+sizeOf (Run h w rec) = 0
+sizeOf (Block q w rec) = 0
 sizeOf (Stop why days) = 0
 
 unfoldable pub sizes : List Entry → ℕ
@@ -39,9 +39,9 @@ creditBack es = sizes (sinceWrongLot es)
 -- of each standing lot, newest first, whether d > 0
 unfoldable pub lotsWrong : List Entry → List Bool
 lotsWrong [] = []
-lotsWrong (Lot label N n d D ∷ es) = ltb 0 d ∷ lotsWrong es
-lotsWrong (Run h w ∷ es) = lotsWrong es
-lotsWrong (Block q w ∷ es) = lotsWrong es
+lotsWrong (Lot label N n d D rec ∷ es) = ltb 0 d ∷ lotsWrong es
+lotsWrong (Run h w rec ∷ es) = lotsWrong es
+lotsWrong (Block q w rec ∷ es) = lotsWrong es
 lotsWrong (Stop why days ∷ es) = lotsWrong es
 
 unfoldable pub withheldMark : List Entry → ℕ → ℕ
@@ -53,9 +53,9 @@ windowBack es = withheldMark es 0 + 2 * withheldMark es 1 + 4 * withheldMark es 
 -- "Continuous": add up h of the runs after the last breaker, of all runs without one
 
 unfoldable pub runsOf : Entry → ℕ
-runsOf (Lot label N n d D) = 0
-runsOf (Run h w) = h
-runsOf (Block q w) = 0
+runsOf (Lot label N n d D rec) = 0
+runsOf (Run h w rec) = h
+runsOf (Block q w rec) = 0
 runsOf (Stop why days) = 0
 
 unfoldable pub runs : List Entry → ℕ
@@ -64,9 +64,9 @@ runs (e ∷ es) = runsOf e + runs es
 
 -- a breaker is a run or block with w = 1, a why-2 stop, or a stop of more than 3 days met in sampling
 unfoldable pub breaks : Bool → Entry → Bool
-breaks metInSampling (Lot label N n d D) = false
-breaks metInSampling (Run h w) = eqb w 1
-breaks metInSampling (Block q w) = eqb w 1
+breaks metInSampling (Lot label N n d D rec) = false
+breaks metInSampling (Run h w rec) = eqb w 1
+breaks metInSampling (Block q w rec) = eqb w 1
 breaks metInSampling (Stop why days) = eqb why 2 || metInSampling && ltb 3 days
 
 -- the entries after the last breaker; whether a stop was met in sampling is read the same way from the entries before it: their
@@ -88,9 +88,9 @@ countBack i es = cond (samplingBack i es) 0 (runs (sinceBreaker i es))
 -- g - p of the last block, 0 without one
 unfoldable pub tailOfLast : ℕ → List Entry → ℕ
 tailOfLast g [] = 0
-tailOfLast g (Lot label N n d D ∷ es) = tailOfLast g es
-tailOfLast g (Run h w ∷ es) = tailOfLast g es
-tailOfLast g (Block q w ∷ es) = g - q
+tailOfLast g (Lot label N n d D rec ∷ es) = tailOfLast g es
+tailOfLast g (Run h w rec ∷ es) = tailOfLast g es
+tailOfLast g (Block q w rec ∷ es) = g - q
 tailOfLast g (Stop why days ∷ es) = tailOfLast g es
 
 -- in phase 1, u is g - p of the last block after the last breaker, or of the last of all blocks where there is no breaker, and 0 where

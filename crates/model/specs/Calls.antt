@@ -1,7 +1,7 @@
--- The eight calls on a station: paper 01, "Calls". Assumes nothing.
-use Prim.Native.Nat.{ℕ, _+_, _-_}
-use mathlib.Core.Bool.{Bool, true, cond, not, _&&_, _||_}
-use mathlib.Core.List.{List, [], _∷_}
+-- The calls on a station: paper 01, "Calls", and paper 02, card 1. Assumes nothing.
+use Prim.Native.Nat.{ℕ, _+_, _-_, min}
+use mathlib.Core.Bool.{Bool, true, false, cond, not, _&&_, _||_}
+use mathlib.Core.List.{List, [], _∷_, _++_}
 use lib.Dec.{eqb, ltb, leb}
 use lib.ListN.{length}
 use Rattle.plans.specs.Verdicts.{lotHeard, lotWithheld}
@@ -12,7 +12,7 @@ use Rattle.model.specs.declared.Plan.{Plan}
 use Rattle.model.specs.declared.Entry.{Entry}
 use Rattle.model.specs.declared.Entry.the-variants.{Lot, Run, Block, Stop}
 use Rattle.model.specs.declared.Call.{Call}
-use Rattle.model.specs.declared.Call.the-variants.{Open, Enter, Back, Ask, Read}
+use Rattle.model.specs.declared.Call.the-variants.{Open, Enter, Back, Ask, Read, Newest}
 use Rattle.model.specs.declared.Figures.{Figures}
 use Rattle.model.specs.declared.Answer.{Answer}
 use Rattle.model.specs.Sizes.{mostRecords}
@@ -58,9 +58,10 @@ countsAgree verdict N n d D =
     && (not (eqb verdict lotHeard) || within d (N - n + d) D)
     && (not (eqb verdict lotWithheld) || eqb D d)
 
--- the refusals of a call that enters something, in the paper's order, with figures f and so many standing records
-unfoldable pub entryRefusals : Plan → Figures → ℕ → Entry → List Refusal
-entryRefusals p f count (Lot label N n d D) =
+-- the refusals of paper 01 of a call that enters something, in its order, with figures f and so many standing records. They do not look
+-- at a recording
+unfoldable pub ruleRefusals : Plan → Figures → ℕ → Entry → List Refusal
+ruleRefusals p f count (Lot label N n d D rec) =
     refuse 7 (isContinuous p)
     ∷ refuse 8 (isDiscontinued f)
     ∷ refuse 9 (isFull count)
@@ -69,23 +70,42 @@ entryRefusals p f count (Lot label N n d D) =
     ∷ refuse 12 (not (eqb n (sampleAsked p f N)))
     ∷ refuse 13 (not (countsAgree (verdictOn p f d) N n d D))
     ∷ []
-entryRefusals p f count (Run h w) =
+ruleRefusals p f count (Run h w rec) =
     refuse 7 (not (isContinuous p))
     ∷ refuse 9 (isFull count)
     ∷ refuse 15 (ltb longestRun h || ltb 1 w || eqb (h + w) 0)
     ∷ refuse 14 (isSampling (f .continuous) || ltb (p .a) (f .continuous .count + h + w))
     ∷ []
-entryRefusals p f count (Block q w) =
+ruleRefusals p f count (Block q w rec) =
     refuse 7 (not (isContinuous p))
     ∷ refuse 9 (isFull count)
     ∷ refuse 15 (not (within 1 (p .b) q) || ltb 1 w)
     ∷ refuse 14 (not (isSampling (f .continuous)))
     ∷ []
-entryRefusals p f count (Stop why days) =
+ruleRefusals p f count (Stop why days) =
     refuse 8 (isDiscontinued f)
     ∷ refuse 9 (isFull count)
     ∷ refuse 15 (not (within 1 2 why) || ltb longestStop days || (eqb why 2 && ltb 0 days))
     ∷ []
+
+-- paper 01's rules allow the entry
+unfoldable pub allows : Plan → Figures → ℕ → Entry → Bool
+allows p f count e = eqb (firstOf (ruleRefusals p f count e)) 0
+
+-- a lot, a run or a block
+unfoldable pub bringsRecording : Entry → Bool
+bringsRecording (Lot label N n d D rec) = true
+bringsRecording (Run h w rec) = true
+bringsRecording (Block q w rec) = true
+bringsRecording (Stop why days) = false
+
+-- 17: the recording number is 0. A stop has no recording to bring
+unfoldable pub lacksRecording : Entry → Bool
+lacksRecording e = bringsRecording e && eqb (recordOf e .recording .number) 0
+
+-- all refusals of such a call: paper 02, card 1, has 17 "last in its call's order"
+unfoldable pub entryRefusals : Plan → Figures → ℕ → Entry → List Refusal
+entryRefusals p f count e = ruleRefusals p f count e ++ (refuse 17 (lacksRecording e) ∷ [])
 
 -- such a call is accepted
 unfoldable pub accepts : Plan → Figures → ℕ → Entry → Bool
@@ -103,11 +123,13 @@ refusals unopened (Enter e) = refuse 6 true ∷ []
 refusals unopened Back = refuse 6 true ∷ []
 refusals unopened (Ask N) = refuse 6 true ∷ []
 refusals unopened Read = refuse 6 true ∷ []
+refusals unopened (Newest n) = refuse 6 true ∷ []
 refusals (opened p es) (Open q) = refuse 4 true ∷ refuse 5 (not (validPlan q)) ∷ []
 refusals (opened p es) (Enter e) = entryRefusals p (figuresOf p es) (length es) e
 refusals (opened p es) Back = refuse 16 (eqb (length es) 0) ∷ []
 refusals (opened p es) (Ask N) = askRefusals p (figuresOf p es) N
 refusals (opened p es) Read = []
+refusals (opened p es) (Newest n) = []
 
 unfoldable pub refusalOf : Station → Call → ℕ
 refusalOf st c = firstOf (refusals st c)
@@ -132,19 +154,23 @@ readFigure p f =
 
 -- what an entry gives, from the figures before it
 unfoldable pub entryAnswer : Plan → Figures → Entry → Answer
-entryAnswer p f (Lot label N n d D) =
-    gives (verdictOn p f d) (acceptedBy p f (Lot label N n d D)) (lotFigure p (stepped p (Lot label N n d D) f))
-entryAnswer p f (Run h w) = gives (acceptedBy p f (Run h w)) (stepped p (Run h w) f .continuous .phase) 0
-entryAnswer p f (Block q w) =
-    gives (acceptedBy p f (Block q w))
+entryAnswer p f (Lot label N n d D rec) =
+    gives (verdictOn p f d) (acceptedBy p f (Lot label N n d D rec)) (lotFigure p (stepped p (Lot label N n d D rec) f))
+entryAnswer p f (Run h w rec) = gives (acceptedBy p f (Run h w rec)) (stepped p (Run h w rec) f .continuous .phase) 0
+entryAnswer p f (Block q w rec) =
+    gives (acceptedBy p f (Block q w rec))
     (afterBlock (p .b) q (eqb w 1) (f .continuous) .«hear_back»)
-    (stepped p (Block q w) f .continuous .phase)
+    (stepped p (Block q w rec) f .continuous .phase)
 entryAnswer p f (Stop why days) = gives 0 0 0
 
 -- the kind of the newest record
 unfoldable pub newestKind : List Entry → ℕ
 newestKind [] = 0
 newestKind (e ∷ es) = recordOf e .kind
+
+-- paper 02, card 1: as many of the newest records as the count says, or all where fewer stand
+unfoldable pub newestOf : ℕ → List Entry → ℕ
+newestOf n es = min n (length es)
 
 -- what an accepted call gives
 unfoldable pub answerOf : Station → Call → Answer
@@ -154,6 +180,7 @@ answerOf (opened p es) (Enter e) = entryAnswer p (figuresOf p es) e
 answerOf (opened p es) Back = gives (newestKind es) 0 0
 answerOf (opened p es) (Ask N) = gives (sampleAsked p (figuresOf p es) N) 0 0
 answerOf (opened p es) Read = gives (length es) (figuresOf p es .accepted) (readFigure p (figuresOf p es))
+answerOf (opened p es) (Newest n) = gives (newestOf n es) 0 0
 
 unfoldable pub withoutNewest : List Entry → List Entry
 withoutNewest [] = []
@@ -166,11 +193,13 @@ changed unopened (Enter e) = unopened
 changed unopened Back = unopened
 changed unopened (Ask N) = unopened
 changed unopened Read = unopened
+changed unopened (Newest n) = unopened
 changed (opened p es) (Open q) = opened p es
 changed (opened p es) (Enter e) = opened p (e ∷ es)
 changed (opened p es) Back = opened p (withoutNewest es)
 changed (opened p es) (Ask N) = opened p es
 changed (opened p es) Read = opened p es
+changed (opened p es) (Newest n) = opened p es
 
 -- a call on a station: its answer, and the station after it. A refusal gives three zeros and changes nothing
 pub record Outcome : Type 0 where

@@ -1,21 +1,22 @@
--- Cases worked out by hand from paper 01, as calls with their answers, on stream 0 of a fresh store (`Gives`) or on an unopened station
--- (`StationGives`): its frame case, its table of proved cases, and the rules that are easily got wrong. Document 000's Table 2 gives 50
--- for the paper's 48, and 25 for its 24. Assumes nothing.
+-- Cases worked out by hand from papers 01 and 02, as calls with their answers, on stream 0 of a fresh store (`Gives`) or on an unopened
+-- station (`StationGives`): paper 01's frame case, its table of proved cases, the rules that are easily got wrong, and card 1's. Document
+-- 000's Table 2 gives 50 for the paper's 48, and 25 for its 24. Assumes nothing.
 use Prim.Native.Nat.{ℕ, zero, suc, _-_}
 use mathlib.Core.Path.{_≡_}
 use mathlib.Core.List.{List, [], _∷_, _++_}
 use lib.ListN.{length, set, replicate}
 use Rattle.model.specs.declared.Plan.{Plan}
+use Rattle.model.specs.declared.Recording.{Recording}
 use Rattle.model.specs.declared.Entry.{Entry}
 use Rattle.model.specs.declared.Entry.the-variants.{Lot, Run, Block, Stop}
 use Rattle.model.specs.declared.Call.{Call}
-use Rattle.model.specs.declared.Call.the-variants.{Open, Enter, Back, Ask, Read}
+use Rattle.model.specs.declared.Call.the-variants.{Open, Enter, Back, Ask, Read, Newest}
 use Rattle.model.specs.declared.Answer.{Answer}
 use Rattle.model.specs.Sizes.{areaLength}
 use Rattle.model.specs.Stations.{Station, unopened, opened}
 use Rattle.model.specs.Calls.{refusalOf, gives, refused, call}
-use Rattle.model.specs.Area.{zeros}
-use Rattle.model.specs.Store.{fresh, areaAt, onStore, storeAfter, answersTo}
+use Rattle.model.specs.Area.{zeros, recordsOf}
+use Rattle.model.specs.Store.{fresh, areaAt, onStore, storeAfter, answersTo, newestPart, newestRecords}
 use Rattle.model.specs.Claims.{on, onAll}
 
 infix 80 _⇒_
@@ -50,14 +51,18 @@ StationGives steps = stationAnswers unopened (callsOf steps) ≡ answersOf steps
 abbrev pub start : ℕ → ℕ → ℕ → ℕ → Call
 start kind option a b = Open (record { kind = kind; option = option; a = a; b = b })
 
+-- "The lots, runs and blocks in 01's cases bring recording 1, second 0": paper 02, card 1
+abbrev pub from : ℕ → ℕ → Recording
+from number second = record { number = number; second = second }
+
 abbrev pub lot : ℕ → ℕ → ℕ → ℕ → ℕ → Call
-lot label N n d D = Enter (Lot label N n d D)
+lot label N n d D = Enter (Lot label N n d D (from 1 0))
 
 abbrev pub run : ℕ → ℕ → Call
-run h w = Enter (Run h w)
+run h w = Enter (Run h w (from 1 0))
 
 abbrev pub block : ℕ → ℕ → Call
-block p w = Enter (Block p w)
+block p w = Enter (Block p w (from 1 0))
 
 abbrev pub stop : ℕ → ℕ → Call
 stop why days = Enter (Stop why days)
@@ -271,14 +276,44 @@ continuousEdges =
     ∷ Read ⇒ gives 8 16 0
     ∷ []
 
--- refusals 1, 2 and 3, each before any other
+-- 17 comes last of a call's list, and the second is free; the newest records are counted on an opened stream
+unfoldable pub recordingEdges : List Step
+recordingEdges =
+    Newest 1 ⇒ refused 6
+    ∷ start 1 0 15000 0 ⇒ gives 0 0 0
+    ∷ Newest 1 ⇒ gives 0 0 0
+    ∷ Enter (Lot 1 201 51 0 1 (from 0 0)) ⇒ refused 13
+    ∷ Enter (Lot 1 201 51 0 0 (from 0 7)) ⇒ refused 17
+    ∷ Enter (Lot 1 201 51 0 0 (from 4294967295 0)) ⇒ gives 1 201 201
+    ∷ stop 1 0 ⇒ gives 0 0 0
+    ∷ Newest 0 ⇒ gives 0 0 0
+    ∷ Newest 1 ⇒ gives 1 0 0
+    ∷ Newest 2 ⇒ gives 2 0 0
+    ∷ Newest 4294967295 ⇒ gives 2 0 0
+    ∷ []
+
+-- the same of a run and a block
+unfoldable pub recordingInTurn : List Step
+recordingInTurn =
+    start 3 0 10 4 ⇒ gives 0 0 0
+    ∷ Enter (Run 11 0 (from 0 0)) ⇒ refused 14
+    ∷ Enter (Run 10 0 (from 0 9)) ⇒ refused 17
+    ∷ Enter (Block 1 0 (from 0 0)) ⇒ refused 14
+    ∷ Enter (Run 10 0 (from 7 0)) ⇒ gives 10 1 0
+    ∷ Enter (Block 1 2 (from 0 0)) ⇒ refused 15
+    ∷ Enter (Block 1 0 (from 0 0)) ⇒ refused 17
+    ∷ Enter (Block 1 0 (from 7 30)) ⇒ gives 4 0 1
+    ∷ []
+
+-- refusals 1, 2 and 3, each before any other; a store of paper 01's length is refused by 1
 abbrev pub StoreEdges : Type 0
 StoreEdges =
-    (onStore (zeros 41727) (on 16 Read) .answer ≡ refused 1)
-    × (onStore (zeros 41728) (on 16 Read) .answer ≡ refused 2)
-    × (onStore (set (zeros 41728) 10 1) (on 0 Read) .answer ≡ refused 3)
-    × (onStore (set (zeros 41728) 10 1) (on 0 (lot 1 201 51 0 0)) .answer ≡ refused 3)
-    × (onStore (set (zeros 41728) 10 1) (on 1 (lot 1 201 51 0 0)) .answer ≡ refused 6)
+    (onStore (zeros 58111) (on 16 Read) .answer ≡ refused 1)
+    × (onStore (zeros 41728) (on 0 Read) .answer ≡ refused 1)
+    × (onStore (zeros 58112) (on 16 Read) .answer ≡ refused 2)
+    × (onStore (set (zeros 58112) 10 1) (on 0 Read) .answer ≡ refused 3)
+    × (onStore (set (zeros 58112) 10 1) (on 0 (lot 1 201 51 0 0)) .answer ≡ refused 3)
+    × (onStore (set (zeros 58112) 10 1) (on 1 (lot 1 201 51 0 0)) .answer ≡ refused 6)
 
 -- a credit stream with so many stops takes one more until 128 records stand
 abbrev pub stops : ℕ → List Entry
@@ -291,7 +326,8 @@ abbrev pub FullAt128 : Type 0
 FullAt128 =
     (refusalOf (opened somePlan (stops 127)) (stop 1 0) ≡ 0) × (refusalOf (opened somePlan (stops 128)) (stop 1 0) ≡ 9)
 
--- "The store", byte for byte: the area after the calls starts with these bytes, and has zeros behind them
+-- "The store", byte for byte, with the recording of paper 02, card 1, behind each record's numbers: the area after the calls starts with
+-- these bytes, and has zeros behind them
 
 abbrev pub AreaStarts : List Call → List ℕ → Type 0
 AreaStarts calls bytes =
@@ -303,6 +339,7 @@ creditArea =
     ∷ 201 ∷ 0 ∷ 0 ∷ 0 ∷ 0 ∷ 0 ∷ 0 ∷ 0 ∷ 0 ∷ 0 ∷ 0 ∷ 0 ∷ 0 ∷ 0 ∷ 0 ∷ 0
     ∷ 201 ∷ 0 ∷ 0 ∷ 0 ∷ 0 ∷ 0 ∷ 0 ∷ 0 ∷ 0 ∷ 0 ∷ 0 ∷ 0 ∷ 0 ∷ 0 ∷ 0 ∷ 0
     ∷ 1 ∷ 0 ∷ 0 ∷ 0 ∷ 1 ∷ 0 ∷ 0 ∷ 0 ∷ 201 ∷ 0 ∷ 0 ∷ 0 ∷ 0 ∷ 0 ∷ 0 ∷ 0 ∷ 0 ∷ 0 ∷ 0 ∷ 0
+    ∷ 1 ∷ 0 ∷ 0 ∷ 0 ∷ 0 ∷ 0 ∷ 0 ∷ 0
     ∷ []
 
 unfoldable pub levelArea : List ℕ
@@ -311,6 +348,7 @@ levelArea =
     ∷ 0 ∷ 0 ∷ 0 ∷ 0 ∷ 1 ∷ 0 ∷ 0 ∷ 1 ∷ 0 ∷ 0 ∷ 0 ∷ 0 ∷ 0 ∷ 0 ∷ 0 ∷ 0
     ∷ 0 ∷ 0 ∷ 0 ∷ 0 ∷ 0 ∷ 0 ∷ 0 ∷ 0 ∷ 0 ∷ 0 ∷ 0 ∷ 0 ∷ 0 ∷ 0 ∷ 0 ∷ 0
     ∷ 1 ∷ 0 ∷ 0 ∷ 0 ∷ 7 ∷ 0 ∷ 0 ∷ 0 ∷ 44 ∷ 1 ∷ 0 ∷ 0 ∷ 1 ∷ 0 ∷ 0 ∷ 0 ∷ 1 ∷ 0 ∷ 0 ∷ 0
+    ∷ 1 ∷ 2 ∷ 3 ∷ 4 ∷ 128 ∷ 81 ∷ 1 ∷ 0
     ∷ []
 
 unfoldable pub continuousArea : List ℕ
@@ -319,15 +357,31 @@ continuousArea =
     ∷ 0 ∷ 0 ∷ 0 ∷ 0 ∷ 0 ∷ 0 ∷ 0 ∷ 0 ∷ 0 ∷ 0 ∷ 0 ∷ 0 ∷ 1 ∷ 0 ∷ 3 ∷ 0
     ∷ 14 ∷ 0 ∷ 0 ∷ 0 ∷ 0 ∷ 0 ∷ 0 ∷ 0 ∷ 0 ∷ 0 ∷ 0 ∷ 0 ∷ 0 ∷ 0 ∷ 0 ∷ 0
     ∷ 2 ∷ 0 ∷ 0 ∷ 0 ∷ 10 ∷ 0 ∷ 0 ∷ 0 ∷ 0 ∷ 0 ∷ 0 ∷ 0 ∷ 0 ∷ 0 ∷ 0 ∷ 0 ∷ 0 ∷ 0 ∷ 0 ∷ 0
+    ∷ 1 ∷ 0 ∷ 0 ∷ 0 ∷ 0 ∷ 0 ∷ 0 ∷ 0
     ∷ 3 ∷ 0 ∷ 0 ∷ 0 ∷ 1 ∷ 0 ∷ 0 ∷ 0 ∷ 0 ∷ 0 ∷ 0 ∷ 0 ∷ 0 ∷ 0 ∷ 0 ∷ 0 ∷ 0 ∷ 0 ∷ 0 ∷ 0
+    ∷ 1 ∷ 0 ∷ 0 ∷ 0 ∷ 0 ∷ 0 ∷ 0 ∷ 0
     ∷ 4 ∷ 1 ∷ 0 ∷ 0 ∷ 2 ∷ 0 ∷ 0 ∷ 0 ∷ 0 ∷ 0 ∷ 0 ∷ 0 ∷ 0 ∷ 0 ∷ 0 ∷ 0 ∷ 0 ∷ 0 ∷ 0 ∷ 0
+    ∷ 0 ∷ 0 ∷ 0 ∷ 0 ∷ 0 ∷ 0 ∷ 0 ∷ 0
     ∷ []
 
 abbrev pub BytesHold : Type 0
 BytesHold =
     AreaStarts (start 1 0 15000 0 ∷ lot 1 201 51 0 0 ∷ []) creditArea
-    × AreaStarts (start 2 1 2 0 ∷ lot 7 300 16 1 1 ∷ []) levelArea
+    × AreaStarts (start 2 1 2 0 ∷ Enter (Lot 7 300 16 1 1 (from 67305985 86400)) ∷ []) levelArea
     × AreaStarts (start 3 0 10 4 ∷ run 10 0 ∷ block 1 0 ∷ stop 1 2 ∷ []) continuousArea
+
+-- the part of the store with the newest records: a run of recording 7, a block of recording 8, and a stop, on stream 2
+unfoldable pub threeStand : List Call
+threeStand =
+    start 3 0 10 4 ∷ Enter (Run 10 0 (from 7 0)) ∷ Enter (Block 1 0 (from 8 30)) ∷ stop 1 2 ∷ []
+
+abbrev pub PartsHold : Type 0
+PartsHold =
+    (newestPart (storeAfter fresh (onAll 2 threeStand)) 2 0 ≡ record { offset = 7396; length = 0 })
+    × (newestPart (storeAfter fresh (onAll 2 threeStand)) 2 2 ≡ record { offset = 7340; length = 56 })
+    × (newestPart (storeAfter fresh (onAll 2 threeStand)) 2 4 ≡ record { offset = 7312; length = 84 })
+    × (newestPart (storeAfter fresh (onAll 2 threeStand)) 1 4 ≡ record { offset = 0; length = 0 })
+    × (newestRecords (storeAfter fresh (onAll 2 threeStand)) 2 2 ≡ recordsOf (Stop 1 2 ∷ Block 1 0 (from 8 30) ∷ []))
 
 -- every case, as one claim
 abbrev pub CasesHold : Type 0
@@ -346,6 +400,9 @@ CasesHold =
     × Gives takenBack
     × StationGives creditEdges
     × StationGives continuousEdges
+    × StationGives recordingEdges
+    × StationGives recordingInTurn
     × FullAt128
     × StoreEdges
     × BytesHold
+    × PartsHold

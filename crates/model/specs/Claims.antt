@@ -1,18 +1,19 @@
 -- What is claimed of the definitions, and proved in proofs/. Assumes nothing.
-use Prim.Native.Nat.{ℕ, _+_, _<_, _≤_}
+use Prim.Native.Nat.{ℕ, _+_, _*_, _<_, _≤_}
 use mathlib.Core.Path.{_≡_}
 use mathlib.Core.Logic.{_⊎_}
-use mathlib.Core.Bool.{Bool, true, false, cond, _&&_}
+use mathlib.Core.Bool.{Bool, true, false, cond, not, _&&_}
 use mathlib.Core.List.{List, [], _∷_, _++_}
 use lib.Dec.{T, eqb}
-use lib.ListN.{length, getD}
+use lib.ListN.{length, getD, take}
 use Rattle.little.specs.Little.{value, part}
 use Rattle.model.specs.declared.Plan.{Plan}
 use Rattle.model.specs.declared.Entry.{Entry}
 use Rattle.model.specs.declared.Call.{Call}
-use Rattle.model.specs.declared.Call.the-variants.{Open, Enter, Back, Ask, Read}
+use Rattle.model.specs.declared.Call.the-variants.{Open, Enter, Back, Ask, Read, Newest}
 use Rattle.model.specs.declared.Answer.{Answer}
-use Rattle.model.specs.Sizes.{areaLength, streams, startOf}
+use Rattle.model.specs.declared.Recording.{Recording}
+use Rattle.model.specs.Sizes.{recordLength, headerLength, mostRecords, areaLength, streams, startOf}
 use Rattle.model.specs.Stations.{
   Station,
   unopened,
@@ -23,9 +24,10 @@ use Rattle.model.specs.Stations.{
   arguments,
   allWords,
 }
-use Rattle.model.specs.Calls.{refusalOf, refused, call}
-use Rattle.model.specs.Area.{zeros, areaOf, reading, holds, onArea}
-use Rattle.model.specs.Store.{Request, fresh, areaAt, onStore, storeAfter, answersTo}
+use Rattle.model.specs.Records.{noRecording, recordIn, recordOf}
+use Rattle.model.specs.Calls.{refusalOf, refused, bringsRecording, call}
+use Rattle.model.specs.Area.{zeros, recordsOf, areaOf, reading, holds, onArea}
+use Rattle.model.specs.Store.{Request, fresh, areaAt, onStore, storeAfter, answersTo, newestPart, newestRecords}
 use Rattle.model.specs.Backward.{creditBack, windowBack, countBack, phaseBack, tailBack}
 
 -- Soundness. "An area is sound when it is all zero, or when some list of accepted calls below, begun on an all-zero one, leaves
@@ -67,6 +69,10 @@ pub record DecidesSoundness (area : List ℕ) : Type 0 where
   pub leftBytes : (cs : List Call) → T (allAccepted unopened cs)
       → areaAfter (zeros areaLength) cs ≡ areaOf (stationAfter unopened cs)
 
+-- a call on a stream
+abbrev pub on : ℕ → Call → Request
+on stream c = record { stream = stream; made = c }
+
 -- "The store": a call writes only inside its own stream's area and reads no other: another store of the same length with the same area
 -- there gives the same answer and the same area after. "Calls": a refusal gives three zeros and changes nothing
 pub record KeepsToItsArea (store : List ℕ) (r : Request) : Type 0 where
@@ -78,6 +84,17 @@ pub record KeepsToItsArea (store : List ℕ) (r : Request) : Type 0 where
   pub readsNoOther : (other : List ℕ) → length other ≡ length store → areaAt (r .stream) other ≡ areaAt (r .stream) store
       → (onStore other r .answer ≡ onStore store r .answer)
       × (areaAt (r .stream) (onStore other r .store) ≡ areaAt (r .stream) (onStore store r .store))
+
+-- Paper 02, card 1: the part that is handed back is "of the area itself": behind the header of the stream's own area and inside it, as many
+-- records as the call answers; another store of the same length with the same area there hands back the same bytes
+pub record PartOfItsArea (store : List ℕ) (stream n : ℕ) : Type 0 where
+  pub readsNoOther : (other : List ℕ) → length other ≡ length store → areaAt stream other ≡ areaAt stream store
+      → newestRecords other stream n ≡ newestRecords store stream n
+  pub inside : onStore store (on stream (Newest n)) .answer .refusal ≡ 0
+      → (startOf stream + headerLength ≤ newestPart store stream n .offset)
+      × (newestPart store stream n .offset + newestPart store stream n .length ≤ startOf stream + areaLength)
+  pub whole : onStore store (on stream (Newest n)) .answer .refusal ≡ 0
+      → newestPart store stream n .length ≡ recordLength * onStore store (on stream (Newest n)) .answer .first
 
 -- The figures in an area are those worked out backwards from the standing entries; figures foreign to the plan are zero
 pub record FiguresBackward (p : Plan) (es : List Entry) (area : List ℕ) : Type 0 where
@@ -92,6 +109,35 @@ unfoldable pub StationBackward : Station → List ℕ → Type 0
 StationBackward unopened area = area ≡ zeros areaLength
 StationBackward (opened p es) area = FiguresBackward p es area
 
+-- Paper 02, card 1: "a recording is found exactly where a lot, run or block stands". Places are counted from 0, oldest first
+
+-- a lot, run or block stands at a place
+unfoldable pub recordedAt : List Entry → ℕ → Bool
+recordedAt [] i = false
+recordedAt (e ∷ es) i = cond (eqb i (length es)) (bringsRecording e) (recordedAt es i)
+
+unfoldable pub recordedIn : Station → ℕ → Bool
+recordedIn unopened i = false
+recordedIn (opened p es) i = recordedAt es i
+
+-- the recording of the entry that stands at a place; zeros where it is a stop, and where none stands
+unfoldable pub broughtAt : List Entry → ℕ → Recording
+broughtAt [] i = noRecording
+broughtAt (e ∷ es) i = cond (eqb i (length es)) (recordOf e .recording) (broughtAt es i)
+
+unfoldable pub broughtIn : Station → ℕ → Recording
+broughtIn unopened i = noRecording
+broughtIn (opened p es) i = broughtAt es i
+
+-- the recording in the bytes at a place of an area
+unfoldable pub recordingAt : List ℕ → ℕ → Recording
+recordingAt area i = recordIn (part (headerLength + recordLength * i) recordLength area) .recording
+
+-- the recordings in an area are those of a station's entries, each at its place: so a taken-back entry's recording goes with it
+pub record RecordingsStand (st : Station) (area : List ℕ) (i : ℕ) : Type 0 where
+  pub own : recordingAt area i ≡ broughtIn st i
+  pub found : not (eqb (recordingAt area i .number) 0) ≡ recordedIn st i
+
 -- Demand 3. "A stream's standing list is read off the calls on that stream, their arguments and refusal numbers."
 
 -- a call that was made, and the refusal number that it got
@@ -105,7 +151,7 @@ history store (r ∷ rs) =
     record { request = r; refusal = onStore store r .answer .refusal } ∷ history (onStore store r .store) rs
 
 -- "The list is empty before Open and when opened; an accepted Lot, Run, Block or Stop is appended with all its arguments; an
--- accepted take-back removes the newest; refused calls, asks and reads leave it."
+-- accepted take-back removes the newest; refused calls, asks and reads leave it." So does a call for the newest records
 unfoldable pub afterAccepted : Call → Station → Station
 afterAccepted (Open q) st = opened q []
 afterAccepted (Enter e) unopened = unopened
@@ -115,6 +161,7 @@ afterAccepted Back (opened p []) = opened p []
 afterAccepted Back (opened p (e ∷ es)) = opened p es
 afterAccepted (Ask N) st = st
 afterAccepted Read st = st
+afterAccepted (Newest n) st = st
 
 unfoldable pub afterPastCall : ℕ → PastCall → Station → Station
 afterPastCall stream past st =
@@ -127,9 +174,6 @@ standing stream st (past ∷ later) = standing stream (afterPastCall stream past
 
 -- "The other store": the accepted Open, if the stream was opened, then the standing entries, oldest first, each by the call and with
 -- the arguments that entered it
-
-abbrev pub on : ℕ → Call → Request
-on stream c = record { stream = stream; made = c }
 
 unfoldable pub reentered : ℕ → List Entry → List Request
 reentered stream [] = []
@@ -155,15 +199,27 @@ areWords (r ∷ rs) = allWords (arguments (r .made)) && areWords rs
 unfoldable pub there : ℕ → Station → List ℕ
 there stream st = storeAfter fresh (remade stream st)
 
+-- the bytes of so many of a station's newest records, as they lie in its area
+unfoldable pub newestBytes : ℕ → Station → List ℕ
+newestBytes n unopened = []
+newestBytes n (opened p es) = recordsOf (take n es)
+
 -- what the calls made from a fresh store, with the refusal numbers that they got, and the store that they left are to be for a stream:
 -- the whole area is equal in both stores; each call made on the other store is accepted; whatever calls on the stream follow, each
--- gives the same whole answer on both; and the figures stored are those worked out backwards from the standing entries. The area is
--- the one that the rules give for the standing entries, and the next call answers by the rules: a store never written is no way out
+-- gives the same whole answer on both, and the newest records that are then handed back, however many, are the same bytes on both; they are
+-- those of the newest standing entries; the recordings are found where their entries stand; and the figures stored are those worked out
+-- backwards from the standing entries. The area is the one that the rules give for the standing entries, and the next call answers by the
+-- rules: a store never written is no way out
 pub record DemandThree (past : List PastCall) (left : List ℕ) (stream : ℕ) : Type 0 where
   pub sameArea : areaAt stream left ≡ areaAt stream (there stream (standing stream unopened past))
   pub taken : AllTaken (answersTo fresh (remade stream (standing stream unopened past)))
   pub answersAlike : (more : List Call)
       → answersTo left (onAll stream more) ≡ answersTo (there stream (standing stream unopened past)) (onAll stream more)
+  pub newestAlike : (more : List Call) (n : ℕ)
+      → newestRecords (storeAfter left (onAll stream more)) stream n
+      ≡ newestRecords (storeAfter (there stream (standing stream unopened past)) (onAll stream more)) stream n
+  pub newestStand : (n : ℕ) → newestRecords left stream n ≡ newestBytes n (standing stream unopened past)
+  pub recordings : (i : ℕ) → i < mostRecords → RecordingsStand (standing stream unopened past) (areaAt stream left) i
   pub backwards : StationBackward (standing stream unopened past) (areaAt stream left)
   pub standsThere : areaAt stream left ≡ areaOf (standing stream unopened past)
   pub byTheRules : (c : Call) → onStore left (on stream c) .answer ≡ call (standing stream unopened past) c .answer

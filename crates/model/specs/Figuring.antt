@@ -46,39 +46,39 @@ verdictOn p f d = cond (isCredit p) (creditVerdict (f .credit .0) (hasOption p) 
 
 -- how many detections an entry has accepted
 unfoldable pub acceptedBy : Plan → Figures → Entry → ℕ
-acceptedBy p f (Lot label N n d D) = acceptedOf (verdictOn p f d) N D
-acceptedBy p f (Run h w) = h
-acceptedBy p f (Block q w) = afterBlock (p .b) q (eqb w 1) (f .continuous) .accepted
+acceptedBy p f (Lot label N n d D rec) = acceptedOf (verdictOn p f d) N D
+acceptedBy p f (Run h w rec) = h
+acceptedBy p f (Block q w rec) = afterBlock (p .b) q (eqb w 1) (f .continuous) .accepted
 acceptedBy p f (Stop why days) = 0
 
 unfoldable pub creditStep : Plan → Entry → ℕ → ℕ
-creditStep p (Lot label N n d D) K = cond (isCredit p) (creditAfter K N d) K
-creditStep p (Run h w) K = K
-creditStep p (Block q w) K = K
+creditStep p (Lot label N n d D rec) K = cond (isCredit p) (creditAfter K N d) K
+creditStep p (Run h w rec) K = K
+creditStep p (Block q w rec) K = K
 creditStep p (Stop why days) K = K
 
 unfoldable pub levelStep : Plan → Entry → LevelState → LevelState
-levelStep p (Lot label N n d D) s = cond (isLevel p) (judgedLot (hasOption p) (ltb 0 d) s) s
-levelStep p (Run h w) s = s
-levelStep p (Block q w) s = s
+levelStep p (Lot label N n d D rec) s = cond (isLevel p) (judgedLot (hasOption p) (ltb 0 d) s) s
+levelStep p (Run h w rec) s = s
+levelStep p (Block q w rec) s = s
 levelStep p (Stop why days) s = cond (isLevel p) (metStop why days s) s
 
 unfoldable pub continuousStep : Plan → Entry → Continuous → Continuous
-continuousStep p (Lot label N n d D) s = s
-continuousStep p (Run h w) s = afterRun (p .a) h (eqb w 1) s
-continuousStep p (Block q w) s = afterBlock (p .b) q (eqb w 1) s .state
+continuousStep p (Lot label N n d D rec) s = s
+continuousStep p (Run h w rec) s = afterRun (p .a) h (eqb w 1) s
+continuousStep p (Block q w rec) s = afterBlock (p .b) q (eqb w 1) s .state
 continuousStep p (Stop why days) s = cond (isContinuous p) (afterStop why days s) s
 
 unfoldable pub isLot : Entry → Bool
-isLot (Lot label N n d D) = true
-isLot (Run h w) = false
-isLot (Block q w) = false
+isLot (Lot label N n d D rec) = true
+isLot (Run h w rec) = false
+isLot (Block q w rec) = false
 isLot (Stop why days) = false
 
 unfoldable pub labelOf : Entry → ℕ
-labelOf (Lot label N n d D) = label
-labelOf (Run h w) = 0
-labelOf (Block q w) = 0
+labelOf (Lot label N n d D rec) = label
+labelOf (Run h w rec) = 0
+labelOf (Block q w rec) = 0
 labelOf (Stop why days) = 0
 
 -- the figures after one entry more

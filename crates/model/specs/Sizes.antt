@@ -1,8 +1,8 @@
--- The sizes of paper 01, "The store". Assumes nothing.
+-- The sizes of paper 01, "The store", with the records of paper 02, card 1. Assumes nothing.
 use Prim.Native.Nat.{ℕ, _+_, _*_}
 
 abbrev pub recordLength : ℕ
-recordLength = 20
+recordLength = 28
 
 -- where the records start in an area
 abbrev pub headerLength : ℕ
@@ -11,14 +11,14 @@ headerLength = 48
 abbrev pub mostRecords : ℕ
 mostRecords = 128
 
--- 2,608
+-- 3,632
 abbrev pub areaLength : ℕ
 areaLength = headerLength + recordLength * mostRecords
 
 abbrev pub streams : ℕ
 streams = 16
 
--- 41,728
+-- 58,112
 abbrev pub storeLength : ℕ
 storeLength = areaLength * streams
 

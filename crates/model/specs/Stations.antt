@@ -8,7 +8,7 @@ use Rattle.model.specs.declared.Plan.{Plan}
 use Rattle.model.specs.declared.Entry.{Entry}
 use Rattle.model.specs.declared.Entry.the-variants.{Lot, Run, Block, Stop}
 use Rattle.model.specs.declared.Call.{Call}
-use Rattle.model.specs.declared.Call.the-variants.{Open, Enter, Back, Ask, Read}
+use Rattle.model.specs.declared.Call.the-variants.{Open, Enter, Back, Ask, Read, Newest}
 
 -- a stream is unopened, or opened with a plan, and then has standing entries, newest first
 pub data Station : Type 0 where
@@ -38,11 +38,11 @@ validPlan p =
     (cond (isLevel p) (within 1 verificationLevels (p .a) && eqb (p .b) 0 && leb (p .option) 1)
     (isContinuous p && within 1 largestClearance (p .a) && within 2 largestInterval (p .b) && eqb (p .option) 0))
 
--- the arguments in the order of "Calls"
+-- the arguments in the order of "Calls"; the recording comes last (paper 02, card 1)
 unfoldable pub entryArguments : Entry → List ℕ
-entryArguments (Lot label N n d D) = label ∷ N ∷ n ∷ d ∷ D ∷ []
-entryArguments (Run h w) = h ∷ w ∷ []
-entryArguments (Block q w) = q ∷ w ∷ []
+entryArguments (Lot label N n d D rec) = label ∷ N ∷ n ∷ d ∷ D ∷ rec .number ∷ rec .second ∷ []
+entryArguments (Run h w rec) = h ∷ w ∷ rec .number ∷ rec .second ∷ []
+entryArguments (Block q w rec) = q ∷ w ∷ rec .number ∷ rec .second ∷ []
 entryArguments (Stop why days) = why ∷ days ∷ []
 
 unfoldable pub arguments : Call → List ℕ
@@ -51,6 +51,7 @@ arguments (Enter e) = entryArguments e
 arguments Back = []
 arguments (Ask N) = N ∷ []
 arguments Read = []
+arguments (Newest count) = count ∷ []
 
 -- arguments are 32-bit numbers
 unfoldable pub allWords : List ℕ → Bool

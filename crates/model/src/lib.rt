@@ -3,6 +3,7 @@
 pub mod claims;
 pub mod sizes;
 
+use plans::LotSize;
 use plans::continuous::Continuous;
 use plans::credit::Credit;
 use plans::level::LevelState;
@@ -18,7 +19,15 @@ pub struct Plan {
     pub b: u32,
 }
 
-// What a call enters, with all of its arguments; the letters are paper 01's.
+// Where the raw recording behind an entry is found: paper 02, card 1.
+pub struct Recording {
+    // 0 is no recording's
+    pub number: u32,
+    // the second of it at which the entry starts
+    pub second: u32,
+}
+
+// What a call enters, with all of its arguments; the letters are paper 01's. A stop has no recording.
 pub enum Entry {
     Lot {
         label: u32,
@@ -30,23 +39,37 @@ pub enum Entry {
         wrong: u32,
         // D, in all that was heard
         wrong_in_all: u32,
+        recording: Recording,
     },
     Run {
         // h
         right: u32,
         // w
         wrong: u32,
+        recording: Recording,
     },
     Block {
         // p
         heard: u32,
         // w
         wrong: u32,
+        recording: Recording,
     },
     Stop {
         why: u32,
         days: u32,
     },
+}
+
+// A lot as its step takes it: without the sample, which is worked out, and the recording, at which no step looks.
+pub struct HeardLot {
+    pub label: u32,
+    // N
+    pub size: LotSize,
+    // d
+    pub wrong: u32,
+    // D
+    pub wrong_in_all: u32,
 }
 
 // A record as it stands in the bytes, whatever its kind.
@@ -59,15 +82,17 @@ pub struct Record {
     pub b: u32,
     pub c: u32,
     pub d: u32,
+    pub recording: Recording,
 }
 
-// The eight calls: Open, the four that enter something, Back, Ask and Read.
+// The calls: Open, the four that enter something, Back, Ask and Read; and the newest records (paper 02, card 1), so many.
 pub enum Call {
     Open(Plan),
     Enter(Entry),
     Back,
     Ask(u32),
     Read,
+    Newest(u32),
 }
 
 // What a call gives: its refusal number, 0 for none, and three numbers. It is laid out as C lays it out, to be handed over whole.
@@ -77,6 +102,13 @@ pub struct Answer {
     pub first: u32,
     pub second: u32,
     pub third: u32,
+}
+
+// A part of the store: where it starts, and how many bytes it has. It is laid out as C lays it out.
+#[repr(C)]
+pub struct Part {
+    pub offset: usize,
+    pub length: usize,
 }
 
 // A stream's figures.

@@ -33,13 +33,14 @@ module _ (limit number stream : ℕ) (s : List ℕ) (small : stream < limit) (wo
   numbered-small =
       either-small limit (unusedZero number s frameArguments) _ Bad
       (either-small limit (eqb number 1) _ _ (small, slots (0 ∷ 1 ∷ 2 ∷ 3 ∷ []))
-      (either-small limit (eqb number 2) _ _ (small, slots (0 ∷ 1 ∷ 2 ∷ 3 ∷ 4 ∷ []))
-      (either-small limit (eqb number 3) _ _ (small, slots (0 ∷ 1 ∷ []))
-      (either-small limit (eqb number 4) _ _ (small, slots (0 ∷ 1 ∷ []))
+      (either-small limit (eqb number 2) _ _ (small, slots (0 ∷ 1 ∷ 2 ∷ 3 ∷ 4 ∷ 5 ∷ 6 ∷ []))
+      (either-small limit (eqb number 3) _ _ (small, slots (0 ∷ 1 ∷ 5 ∷ 6 ∷ []))
+      (either-small limit (eqb number 4) _ _ (small, slots (0 ∷ 1 ∷ 5 ∷ 6 ∷ []))
       (either-small limit (eqb number 5) _ _ (small, slots (0 ∷ 1 ∷ []))
       (either-small limit (eqb number 6) _ _ (small, no-words)
       (either-small limit (eqb number 7) _ _ (small, slots (0 ∷ []))
-      (either-small limit (eqb number 8) _ Bad (small, no-words) tt))))))))
+      (either-small limit (eqb number 8) _ _ (small, no-words)
+      (either-small limit (eqb number 9) _ Bad (small, slots (0 ∷ [])) tt)))))))))
       tt
 
 pub words-before : (limit : ℕ) (f : Frame) (rs : List Request) → Small limit f → T (areWords rs) → T (areWords (requestOf f ++ rs))

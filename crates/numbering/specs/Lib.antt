@@ -1,2 +1,2 @@
--- Paper 01's calls by number.
+-- The calls of papers 01 and 02 by number.
 pub mod Numbers

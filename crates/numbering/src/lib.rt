@@ -1,12 +1,14 @@
-// The calls by number, paper 01, "Hexadecimal frames": which number is which call, and which of its arguments it uses.
+// The calls by number, paper 01, "Hexadecimal frames", and paper 02, card 1: which number is which call, and which of its arguments it
+// uses.
 ghost use mathlib.Core.Path.{_≡_};
-ghost use Rattle.numbering.specs.Numbers.{frameArguments, slot, uses, unusedZero, numbered};
+ghost use Rattle.numbering.specs.Numbers.{frameArguments, slot, recordingOf, uses, unusedZero, numbered};
 use model::Call;
 use model::Entry;
 use model::Plan;
+use model::Recording;
 
 // Every call has so many arguments, and uses some of them.
-pub const ARGUMENTS: usize = 5;
+pub const ARGUMENTS: usize = 7;
 
 // What numbers stand for: a call made on a stream, or none.
 pub enum Frame {
@@ -26,12 +28,13 @@ pub fn by_number(number: u32, stream: u32, arguments: [u32; ARGUMENTS]) -> Frame
     match number {
         1 => made(stream, open_call(arguments)),
         2 => made(stream, lot_call(arguments)),
-        3 => made(stream, Call::Enter(Entry::Run { right: a, wrong: b })),
-        4 => made(stream, Call::Enter(Entry::Block { heard: a, wrong: b })),
+        3 => made(stream, run_call(arguments)),
+        4 => made(stream, block_call(arguments)),
         5 => made(stream, Call::Enter(Entry::Stop { why: a, days: b })),
         6 => made(stream, Call::Back),
         7 => made(stream, Call::Ask(a)),
         8 => made(stream, Call::Read),
+        9 => made(stream, Call::Newest(a)),
         _ => Frame::Bad,
     }
 }
@@ -54,7 +57,7 @@ fn open_call(arguments: [u32; ARGUMENTS]) -> Call
 }
 
 fn lot_call(arguments: [u32; ARGUMENTS]) -> Call
-    ensures { λ r. ⌜ r ≡ Call.Enter (Entry.Lot (slot 1 arguments) (slot 2 arguments) (slot 3 arguments) (slot 4 arguments) (slot 5 arguments)) ⌝ }
+    ensures { λ r. ⌜ r ≡ Call.Enter (Entry.Lot (slot 1 arguments) (slot 2 arguments) (slot 3 arguments) (slot 4 arguments) (slot 5 arguments) (recordingOf arguments)) ⌝ }
 {
     Call::Enter(Entry::Lot {
         label: arguments[0],
@@ -62,7 +65,38 @@ fn lot_call(arguments: [u32; ARGUMENTS]) -> Call
         sample: arguments[2],
         wrong: arguments[3],
         wrong_in_all: arguments[4],
+        recording: recording_in(arguments),
     })
+}
+
+fn run_call(arguments: [u32; ARGUMENTS]) -> Call
+    ensures { λ r. ⌜ r ≡ Call.Enter (Entry.Run (slot 1 arguments) (slot 2 arguments) (recordingOf arguments)) ⌝ }
+{
+    Call::Enter(Entry::Run {
+        right: arguments[0],
+        wrong: arguments[1],
+        recording: recording_in(arguments),
+    })
+}
+
+fn block_call(arguments: [u32; ARGUMENTS]) -> Call
+    ensures { λ r. ⌜ r ≡ Call.Enter (Entry.Block (slot 1 arguments) (slot 2 arguments) (recordingOf arguments)) ⌝ }
+{
+    Call::Enter(Entry::Block {
+        heard: arguments[0],
+        wrong: arguments[1],
+        recording: recording_in(arguments),
+    })
+}
+
+// The recording that a call brings: "two arguments at the end, number then second".
+fn recording_in(arguments: [u32; ARGUMENTS]) -> Recording
+    ensures { λ r. ⌜ r ≡ recordingOf arguments ⌝ }
+{
+    Recording {
+        number: arguments[5],
+        second: arguments[6],
+    }
 }
 
 // Whether each argument that the call does not use is 0.
@@ -78,17 +112,19 @@ fn unused_zero(number: u32, arguments: [u32; ARGUMENTS]) -> bool
     zero
 }
 
-// Whether the call uses a slot, counted from 1.
+// Whether the call uses a slot, counted from 1. A stop does not use the recording's.
 fn is_used(number: u32, slot: usize) -> bool
     ensures { λ r. ⌜ r ≡ uses number slot ⌝ }
 {
+    let recording = (slot == 6) | (slot == 7);
     match number {
         1 => slot <= 4,
-        2 => slot <= 5,
-        3 => slot <= 2,
-        4 => slot <= 2,
+        2 => (slot <= 5) | recording,
+        3 => (slot <= 2) | recording,
+        4 => (slot <= 2) | recording,
         5 => slot <= 2,
         7 => slot <= 1,
+        9 => slot <= 1,
         _ => false,
     }
 }

@@ -10,38 +10,20 @@ use lib.Dec.{T, eqb, lit<, lit≤}
 use lib.ListN.{length, drop, getD, length-append, length-take, length-drop}
 use lib.Seq.{getD-take, getD-drop, drop-cons, drop-drop, take-add, take-at, drop-at, take-all, ext-getD}
 use borrow.Author.Tests.{eqb-true, eq-eqb}
-use Rattle.little.specs.Little.{bytes, value, part, AreBytes}
-use Rattle.little.proofs.Laws.{length-bytes, value-bytes, value-range, bytes-value, length-part}
+use Rattle.little.specs.Little.{bytes, value, part, written, AreBytes}
+use Rattle.little.proofs.Laws.{length-bytes, value-bytes, value-range, bytes-value, length-part, getD-part, part-part}
 use Rattle.model.specs.Sizes.{recordLength, headerLength, mostRecords}
 use Rattle.model.specs.declared.Plan.{Plan}
+use Rattle.model.specs.declared.Record.{Record}
+use Rattle.model.specs.declared.Recording.{Recording}
 use Rattle.model.specs.Stations.{validPlan}
-use Rattle.model.specs.Records.{byte, recordIn}
+use Rattle.model.specs.Area.{zeros}
+use Rattle.model.specs.Records.{byte, recordingBytes, recordBytes, recordingIn, recordIn, noRecording, withOne}
 use Rattle.model.proofs.Allowed.{plan-range}
 use Rattle.model.proofs.Booleans.{both-true, never-both}
 use Rattle.records.specs.Records.{recordAt, PlanFits, Decides}
 
 -- ---- parts
-
-getD-part : (at k : ℕ) (s : List ℕ) (i : ℕ) → i < k → getD (part at k s) i 0 ≡ getD s (at + i) 0
-unfolding part
-getD-part at k s i h = rw (getD-take k (drop at s) i 0 h, getD-drop at s i 0)
-
--- no byte stands past a part's end
-length-part-le : (at k : ℕ) (s : List ℕ) → length (part at k s) ≤ k
-unfolding part
-length-part-le at k s = rw length-take (omega arith)
-
-length-part-part : (at m j k : ℕ) (s : List ℕ) → j + k ≤ m → length (part j k (part at m s)) ≡ length (part (at + j) k s)
-unfolding part
-length-part-part at m j k s h = simp (length-take, length-drop) (omega arith)
-
--- a part of a part
-pub part-part : (at m j k : ℕ) (s : List ℕ) → j + k ≤ m → part j k (part at m s) ≡ part (at + j) k s
-part-part at m j k s h =
-    ext-getD 0 _ _ (length-part-part at m j k s h)
-    (λ i l.
-    let l′ : i < k = omega (arith, length-part-le j k (part at m s)) in
-    rw (getD-part j k (part at m s) i l′, getD-part at m s (j + i) (omega arith), getD-part (at + j) k s i l′, add-assoc))
 
 -- the elements of a part of bytes are bytes
 pub part-bytes : (at k : ℕ) (s : List ℕ) → AreBytes s → AreBytes (part at k s)
@@ -97,6 +79,7 @@ pub record-read : (area : List ℕ) (at : ℕ) → recordIn (part at recordLengt
   b = value (part (at + 8) 4 area);
   c = value (part (at + 12) 4 area);
   d = value (part (at + 16) 4 area);
+  recording = recordingIn (part (at + 20) 8 area);
 }
 unfolding recordIn
 record-read area at =
@@ -109,7 +92,22 @@ record-read area at =
       part-part at recordLength 8 4 area (lit≤ tt),
       part-part at recordLength 12 4 area (lit≤ tt),
       part-part at recordLength 16 4 area (lit≤ tt),
+      part-part at recordLength 20 8 area (lit≤ tt),
     )
+
+-- the same of a recording
+pub recording-read : (area : List ℕ) (at : ℕ) → recordingIn (part at 8 area) ≡ record {
+  number = value (part at 4 area);
+  second = value (part (at + 4) 4 area);
+}
+unfolding recordingIn
+recording-read area at = rw (part-part at 8 0 4 area (lit≤ tt), add-zero, part-part at 8 4 4 area (lit≤ tt))
+
+-- a record of zeros, written
+pub cleared : (at : ℕ) (none : Recording) (left : Record) (area then : List ℕ) → none ≡ noRecording → left ≡ withOne 0 0 0 none
+    → then ≡ written at (recordBytes left) area → then ≡ written at (zeros recordLength) area
+unfolding recordBytes recordingBytes bytes
+cleared at none left area then bare is wrote = wrote ∙ rw (is, bare)
 
 -- ---- the header
 

@@ -1,4 +1,4 @@
-// One record and the header of a stream's area, between bytes and values: paper 01, "The store".
+// One record and the header of a stream's area, between bytes and values: paper 01, "The store", and paper 02, card 1.
 //
 // The offsets are those of model's specs/Records.antt and specs/Area.antt. Nothing here knows the list of entries, or a refusal.
 ghost use mathlib.Core.Path.{_≡_};
@@ -11,12 +11,13 @@ ghost use Rattle.model.specs.declared.Plan.{Plan};
 ghost use Rattle.model.specs.declared.Figures.{Figures};
 ghost use Rattle.model.specs.Sizes.{recordLength, headerLength, mostRecords, areaLength};
 ghost use Rattle.model.specs.Stations.{validPlan};
-ghost use Rattle.model.specs.Records.{byte, recordBytes, recordIn};
+ghost use Rattle.model.specs.Records.{byte, recordingBytes, recordBytes, recordingIn, recordIn, noRecording, withOne};
 ghost use Rattle.model.specs.Area.{zeros, headerOf, planIn, countIn};
 ghost use Rattle.records.specs.Records.{recordAt, PlanFits, LevelFits, Decides, ZeroBetween};
 use model::Figures;
 use model::Plan;
 use model::Record;
+use model::Recording;
 use model::sizes::AREA_LENGTH;
 use model::sizes::HEADER_LENGTH;
 use model::sizes::RECORD_LENGTH;
@@ -56,6 +57,18 @@ pub fn get_record_at(area: &[u8], at: usize) -> Record
         b: little::get_u32(area, at + 8),
         c: little::get_u32(area, at + 12),
         d: little::get_u32(area, at + 16),
+        recording: get_recording(area, at + 20),
+    }
+}
+
+// The recording at an offset.
+fn get_recording(area: &[u8], at: usize) -> Recording
+    requires { ⌜ at + 8 ≤ length (now area) ⌝ }
+    ensures { λ r. ⌜ r ≡ recordingIn (part at 8 (now (area .entry))) ⌝ }
+{
+    Recording {
+        number: little::get_u32(area, at),
+        second: little::get_u32(area, at + 4),
     }
 }
 
@@ -70,6 +83,42 @@ pub fn put_record(area: &mut [u8], i: usize, record: Record)
     little::put_u32(area, at + 8, record.b);
     little::put_u32(area, at + 12, record.c);
     little::put_u32(area, at + 16, record.d);
+    put_recording(area, at + 20, record.recording);
+}
+
+// Writes a recording.
+fn put_recording(area: &mut [u8], at: usize, recording: Recording)
+    requires { ⌜ at + 8 ≤ length (now area) ⌝ }
+    ensures { λ _. ⌜ now (area .exit) ≡ written at (recordingBytes recording) (now (area .entry)) ⌝ }
+{
+    little::put_u32(area, at, recording.number);
+    little::put_u32(area, at + 4, recording.second);
+}
+
+// What a stop has in place of a recording.
+pub fn no_recording() -> Recording
+    ensures { λ r. ⌜ r ≡ noRecording ⌝ }
+{
+    Recording {
+        number: 0,
+        second: 0,
+    }
+}
+
+// A record with one number: of a run, a block or a stop.
+pub fn with_one(kind: u8, flag: u8, a: u32, recording: Recording) -> Record
+    ensures { λ r. ⌜ r ≡ withOne kind flag a recording ⌝ }
+{
+    Record {
+        kind,
+        flag,
+        spare: 0,
+        a,
+        b: 0,
+        c: 0,
+        d: 0,
+        recording,
+    }
 }
 
 // Writes zeros over the i-th record, from 0.
@@ -77,16 +126,7 @@ pub fn clear_record(area: &mut [u8], i: usize)
     requires { ⌜ (length (now area) ≡ areaLength) × (i < mostRecords) ⌝ }
     ensures { λ _. ⌜ now (area .exit) ≡ written (headerLength + recordLength * i) (zeros recordLength) (now (area .entry)) ⌝ }
 {
-    let none = Record {
-        kind: 0,
-        flag: 0,
-        spare: 0,
-        a: 0,
-        b: 0,
-        c: 0,
-        d: 0,
-    };
-    put_record(area, i, none);
+    put_record(area, i, with_one(0, 0, 0, no_recording()));
 }
 
 // The plan: bytes 0, 1 and 4 to 9.

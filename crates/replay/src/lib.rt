@@ -11,9 +11,9 @@ ghost use Rattle.model.specs.Stations.{isContinuous};
 ghost use Rattle.replaying.specs.Replaying.{Ready, replayed, Reached, tried, askedLot};
 ghost use Rattle.replay.specs.Standing.{nothingStands, standingOf, Headed, HeaderFits};
 use model::Figures;
+use model::HeardLot;
 use model::Plan;
 use model::sizes;
-use plans::LotSize;
 use replaying::Entered;
 use rules::plan;
 
@@ -48,21 +48,14 @@ pub fn replay(area: &[u8], plan: Plan, figures: Figures, from: usize, to: usize)
 }
 
 // A lot more on a stream's figures, by the step of its plan: whether it could stand, and the figures after it.
-pub fn enter_lot(
-    plan: Plan,
-    figures: Figures,
-    label: u32,
-    size: LotSize,
-    wrong: u32,
-    wrong_in_all: u32,
-) -> Entered
+pub fn enter_lot(plan: Plan, figures: Figures, lot: HeardLot) -> Entered
     requires { ⌜ Reached plan figures × (isContinuous plan ≡ false) ⌝ }
-    ensures { λ r. ⌜ r ≡ tried plan figures (askedLot plan figures label (size .0) wrong «wrong_in_all») ⌝ }
+    ensures { λ r. ⌜ r ≡ tried plan figures (askedLot plan figures (lot .label) (lot .size .0) (lot .wrong) (lot .«wrong_in_all»)) ⌝ }
 {
     if plan.kind == plan::CREDIT {
-        return replay_credit::enter_lot(plan, figures, label, size, wrong, wrong_in_all);
+        return replay_credit::enter_lot(plan, figures, lot);
     }
-    replay_level::enter_lot(plan, figures, label, size, wrong, wrong_in_all)
+    replay_level::enter_lot(plan, figures, lot)
 }
 
 // The same of a stop. Runs and blocks are entered on continuous streams alone (`replay_continuous::enter_run` and `enter_block`).

@@ -1,4 +1,4 @@
--- Which runs and blocks are accepted on the figures of a place. Assumes nothing.
+-- Which runs and blocks the rules allow on the figures of a place. Assumes nothing.
 use Prim.Native.Nat.{ℕ, _+_, _-_, _≤_}
 use mathlib.Core.Path.{_≡_, refl}
 use mathlib.Core.Bool.{Bool, true, false, cond, not, _&&_, _||_, or-true}
@@ -10,7 +10,8 @@ use Rattle.plans.specs.Continuous.{screening, sampling, isSampling}
 use Rattle.model.specs.declared.Plan.{Plan}
 use Rattle.model.specs.declared.Entry.the-variants.{Run, Block}
 use Rattle.model.specs.Stations.{isContinuous, within}
-use Rattle.model.specs.Calls.{firstOf, entryRefusals, isFull, accepts}
+use Rattle.model.specs.Records.{noRecording}
+use Rattle.model.specs.Calls.{firstOf, ruleRefusals, isFull, allows}
 use Rattle.replay_continuous.specs.declared.Place.{Place}
 use Rattle.replay_continuous.specs.Places.{stateOf, figuresIn, fitsRun, flagOf}
 
@@ -49,30 +50,30 @@ fits-left i left h false least most = go (leb 1 h) (leb h left) refl refl
     go false b e g = let none = leb-false 1 h e in rw (eq-eqb (h + 0) 0 (omega arith), or-true (ltb 10000 h || false))
 
 module _ (p : Plan) (continuous : isContinuous p ≡ true) (s : Place) where
-  -- in sampling no run is accepted, and in screening no block
-  pub no-run : s .left ≡ 0 → (h w : ℕ) → accepts p (figuresIn (p .a) s) 0 (Run h w) ≡ false
-  unfolding accepts firstOf entryRefusals isFull figuresIn stateOf sampling isSampling
+  -- in sampling no run is allowed, and in screening no block
+  pub no-run : s .left ≡ 0 → (h w : ℕ) → allows p (figuresIn (p .a) s) 0 (Run h w noRecording) ≡ false
+  unfolding allows firstOf ruleRefusals isFull figuresIn stateOf sampling isSampling
   no-run none h w = rw (continuous, none) (unfit (ltb 10000 h || ltb 1 w || eqb (h + w) 0))
 
-  pub no-block : (s .left ≡ 0 → ⊥) → (q w : ℕ) → accepts p (figuresIn (p .a) s) 0 (Block q w) ≡ false
-  unfolding accepts firstOf entryRefusals isFull figuresIn stateOf screening isSampling
+  pub no-block : (s .left ≡ 0 → ⊥) → (q w : ℕ) → allows p (figuresIn (p .a) s) 0 (Block q w noRecording) ≡ false
+  unfolding allows firstOf ruleRefusals isFull figuresIn stateOf screening isSampling
   no-block some q w = rw (continuous, ne-eqb (s .left) 0 some) (unfit (not (within 1 (p .b) q) || ltb 1 w))
 
-  pub run-accepts : s .left ≤ p .a → p .a ≤ largestClearance → (h : ℕ) (wrong : Bool)
-      → accepts p (figuresIn (p .a) s) 0 (Run h (flagOf wrong)) ≡ fitsRun (s .left) h wrong
-  unfolding accepts firstOf entryRefusals isFull figuresIn stateOf screening sampling isSampling
-  run-accepts least most h wrong = go (eqb (s .left) 0) refl
+  pub run-allows : s .left ≤ p .a → p .a ≤ largestClearance → (h : ℕ) (wrong : Bool)
+      → allows p (figuresIn (p .a) s) 0 (Run h (flagOf wrong) noRecording) ≡ fitsRun (s .left) h wrong
+  unfolding allows firstOf ruleRefusals isFull figuresIn stateOf screening sampling isSampling
+  run-allows least most h wrong = go (eqb (s .left) 0) refl
     where
-      go : (b : Bool) → eqb (s .left) 0 ≡ b → accepts p (figuresIn (p .a) s) 0 (Run h (flagOf wrong)) ≡ fitsRun (s .left) h wrong
+      go : (b : Bool) → eqb (s .left) 0 ≡ b → allows p (figuresIn (p .a) s) 0 (Run h (flagOf wrong) noRecording) ≡ fitsRun (s .left) h wrong
       go true e = rw (continuous, e) (rw e at (fits-left (p .a) (s .left) h wrong least most))
       go false e = rw (continuous, e) (rw e at (fits-left (p .a) (s .left) h wrong least most))
 
-  pub block-accepts : s .left ≡ 0 → (q : ℕ) (wrong : Bool)
-      → accepts p (figuresIn (p .a) s) 0 (Block q (flagOf wrong)) ≡ within 1 (p .b) q
-  unfolding accepts firstOf entryRefusals isFull figuresIn stateOf sampling isSampling
-  block-accepts none q wrong = go wrong (within 1 (p .b) q) refl
+  pub block-allows : s .left ≡ 0 → (q : ℕ) (wrong : Bool)
+      → allows p (figuresIn (p .a) s) 0 (Block q (flagOf wrong) noRecording) ≡ within 1 (p .b) q
+  unfolding allows firstOf ruleRefusals isFull figuresIn stateOf sampling isSampling
+  block-allows none q wrong = go wrong (within 1 (p .b) q) refl
     where
-      go : (wrong b : Bool) → within 1 (p .b) q ≡ b → accepts p (figuresIn (p .a) s) 0 (Block q (flagOf wrong)) ≡ b
+      go : (wrong b : Bool) → within 1 (p .b) q ≡ b → allows p (figuresIn (p .a) s) 0 (Block q (flagOf wrong) noRecording) ≡ b
       go true true e = rw (continuous, none, e)
       go true false e = rw (continuous, none, e)
       go false true e = rw (continuous, none, e)

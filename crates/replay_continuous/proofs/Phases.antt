@@ -19,7 +19,7 @@ use Rattle.model.specs.declared.Entry.{Entry}
 use Rattle.model.specs.declared.Entry.the-variants.{Lot, Run, Block, Stop}
 use Rattle.model.specs.Stations.{validPlan, isLevel, isContinuous}
 use Rattle.model.specs.Figuring.{started, creditStep, levelStep, continuousStep, acceptedBy, isLot, stepped, figuresOf}
-use Rattle.model.specs.Calls.{firstOf, entryRefusals, admissible}
+use Rattle.model.specs.Calls.{firstOf, ruleRefusals, admissible}
 use Rattle.model.proofs.Booleans.{never-both}
 use Rattle.model.proofs.Allowed.{allowed-lot, allowed-run, newest-of, continuous-plan}
 use Rattle.replaying.specs.Replaying.{figuresTo, Reached, Ready}
@@ -66,21 +66,21 @@ module _ (p : Plan) (valid : T (validPlan p)) (kind : p .kind ≡ 3) where
   by-test : (b : Bool) {x y : Continuous} (n : ℕ) → Placed p (figuresWith x n) → Placed p (figuresWith y n) → Placed p (figuresWith (cond b x y) n)
   by-test b n = either (λ (s : Continuous). Placed p (figuresWith s n)) b
 
-  step-placed : (e : Entry) (s : Continuous) (n i : ℕ) → firstOf (entryRefusals p (figuresWith s n) i e) ≡ 0 → Placed p (figuresWith s n)
+  step-placed : (e : Entry) (s : Continuous) (n i : ℕ) → firstOf (ruleRefusals p (figuresWith s n) i e) ≡ 0 → Placed p (figuresWith s n)
       → Placed p (stepped p e (figuresWith s n))
   unfolding stepped creditStep levelStep continuousStep afterRun afterBlock afterStop acceptedBy isLot
-  step-placed (Lot label N m d D) s n i ok before =
-      absurd (never-both (isContinuous p) continuous (allowed-lot p (figuresWith s n) i label N m d D ok .lots))
-  step-placed (Run h w) s n i ok before =
-      let allowed = allowed-run p (figuresWith s n) i h w ok in
+  step-placed (Lot label N m d D rec) s n i ok before =
+      absurd (never-both (isContinuous p) continuous (allowed-lot p (figuresWith s n) i label N m d D rec ok .lots))
+  step-placed (Run h w rec) s n i ok before =
+      let allowed = allowed-run p (figuresWith s n) i h w rec ok in
       by-test (eqb w 1) (n + h) (anew (n + h)) (run-in-phase p (n + h) (s .count + h) (omega (arith, allowed .fits)))
-  step-placed (Block q w) s n i ok before = by-test (eqb w 1) _ (anew _) (in-sampling p _ (p .b - q))
+  step-placed (Block q w rec) s n i ok before = by-test (eqb w 1) _ (anew _) (in-sampling p _ (p .b - q))
   step-placed (Stop why days) s n i ok before =
       let none : n + 0 ≡ n = omega arith in
       rw (no-level, continuous, none) (by-test (setUpChanged why || isSampling s && longStop days) n (anew n) before)
 
   -- one entry more
-  pub stepped-placed : (e : Entry) (f : Figures) (i : ℕ) → firstOf (entryRefusals p f i e) ≡ 0 → Placed p f → Placed p (stepped p e f)
+  pub stepped-placed : (e : Entry) (f : Figures) (i : ℕ) → firstOf (ruleRefusals p f i e) ≡ 0 → Placed p f → Placed p (stepped p e f)
   unfolding figuresIn
   stepped-placed e f i ok before =
       let state : Continuous = stateOf (p .a) (leftOf (p .a) (f .continuous)) (f .continuous .tail) in
@@ -91,7 +91,7 @@ module _ (p : Plan) (valid : T (validPlan p)) (kind : p .kind ≡ 3) where
   entries-placed [] ok = rw no-level (anew 0)
   entries-placed (e ∷ es) ok =
       let newest = newest-of p e es ok in
-      stepped-placed e (figuresOf p es) (length es) (newest .accepted) (entries-placed es (newest .others))
+      stepped-placed e (figuresOf p es) (length es) (newest .allowed) (entries-placed es (newest .others))
 
 pub reached-placed : (p : Plan) (f : Figures) → Reached p f → p .kind ≡ 3 → Placed p f
 reached-placed p f reached kind = rw (reached .after) (entries-placed p (reached .valid) kind (reached .entries) (reached .stood))

@@ -12,7 +12,7 @@ ghost use Prim.Native.Nat.{_≤_};
 ghost use Rattle.little.specs.Little.{part};
 ghost use Rattle.model.specs.Sizes.{recordLength};
 ghost use Rattle.model.specs.declared.Entry.the-variants.{Run, Block, Stop};
-ghost use Rattle.model.specs.Records.{recordIn};
+ghost use Rattle.model.specs.Records.{noRecording, recordIn};
 ghost use Rattle.replaying.specs.Replaying.{Ready, ReadAt, replayed, Reached, entered, tried};
 ghost use Rattle.replay_continuous.specs.declared.Step.the-variants.{Stands};
 ghost use Rattle.replay_continuous.specs.Places.{
@@ -91,7 +91,7 @@ pub fn replay(area: &[u8], plan: Plan, figures: Figures, from: usize, to: usize)
 // A run more on a continuous stream's figures, as a call enters it: whether it could stand, and the figures after it.
 pub fn enter_run(plan: Plan, figures: Figures, right: u32, wrong: u32) -> Entered
     requires { ⌜ Reached plan figures × (plan .kind ≡ 3) × (wrong ≤ 1) ⌝ }
-    ensures { λ r. ⌜ r ≡ tried plan figures (Run right wrong) ⌝ }
+    ensures { λ r. ⌜ r ≡ tried plan figures (Run right wrong noRecording) ⌝ }
 {
     entered_as(
         plan.a,
@@ -103,7 +103,7 @@ pub fn enter_run(plan: Plan, figures: Figures, right: u32, wrong: u32) -> Entere
 // The same of a block.
 pub fn enter_block(plan: Plan, figures: Figures, heard: u32, wrong: u32) -> Entered
     requires { ⌜ Reached plan figures × (plan .kind ≡ 3) × (wrong ≤ 1) ⌝ }
-    ensures { λ r. ⌜ r ≡ tried plan figures (Block heard wrong) ⌝ }
+    ensures { λ r. ⌜ r ≡ tried plan figures (Block heard wrong noRecording) ⌝ }
 {
     entered_as(
         plan.a,
@@ -177,8 +177,8 @@ fn next(area: &[u8], plan: Plan, place: Place, at: usize) -> Outcome
     }
 }
 
-// What a record does to the place, and whether it could stand: the step of the entry that it holds. A wrong run or block that does not fit goes
-// the way of a stop, and fails there, since it has no why.
+// What a record does to the place, and whether it could stand: the step of the entry that it holds. Without a recording number that can only
+// be a stop, and with one only a run or block (paper 02, card 1).
 // Speed: the phase is looked at first, so that a block's head is not compared with a run's. Whether a wrong run or block fits is asked before its
 // head: so the compiler keeps this order, in which a right one costs one comparison. By the heads alone a long stream in sampling takes 1.25
 // times as long.
@@ -186,6 +186,9 @@ fn take(plan: Plan, place: Place, read: Record) -> Step
     requires { ⌜ OnContinuous plan place ⌝ }
     ensures { λ r. ⌜ Steps plan place r (entered plan (figuresIn (plan .a) place) 0 read) ⌝ }
 {
+    if read.recording.number == 0 {
+        return step_stop(plan, place, replaying::why_of(read), read.a);
+    }
     if replaying::has_more(read) {
         return Step::Fails;
     }
@@ -199,7 +202,7 @@ fn take(plan: Plan, place: Place, read: Record) -> Step
                 return Step::Stands(after);
             }
         }
-        return step_stop(plan, place, replaying::why_of(read), read.a);
+        return Step::Fails;
     }
     if head == replaying::RUN {
         return step_run(plan, place, read.a, false);
@@ -209,13 +212,13 @@ fn take(plan: Plan, place: Place, read: Record) -> Step
             return Step::Stands(after);
         }
     }
-    step_stop(plan, place, replaying::why_of(read), read.a)
+    Step::Fails
 }
 
 // A run of right detections, then a wrong one if wrong.
 fn step_run(plan: Plan, place: Place, right: u32, wrong: bool) -> Step
     requires { ⌜ OnContinuous plan place ⌝ }
-    ensures { λ r. ⌜ Steps plan place r (tried plan (figuresIn (plan .a) place) (Run right (flagOf wrong))) ⌝ }
+    ensures { λ r. ⌜ Steps plan place r (tried plan (figuresIn (plan .a) place) (Run right (flagOf wrong) noRecording)) ⌝ }
 {
     if !fits_run(place.left, right, wrong) {
         return Step::Fails;
@@ -241,7 +244,7 @@ fn fits_run(left: u32, right: u32, wrong: bool) -> bool
 // A block of which one detection was heard.
 fn step_block(plan: Plan, place: Place, heard: u32, wrong: bool) -> Step
     requires { ⌜ OnContinuous plan place ⌝ }
-    ensures { λ r. ⌜ Steps plan place r (tried plan (figuresIn (plan .a) place) (Block heard (flagOf wrong))) ⌝ }
+    ensures { λ r. ⌜ Steps plan place r (tried plan (figuresIn (plan .a) place) (Block heard (flagOf wrong) noRecording)) ⌝ }
 {
     if place.left != 0 {
         return Step::Fails;

@@ -40,6 +40,11 @@ LotGives p s label N d D x = enteredAs (figuresIn s) x ≡ tried p (figuresIn s)
 abbrev pub StopGives : Plan → Carried → ℕ → ℕ → Step → Type 0
 StopGives p s why days x = enteredAs (figuresIn s) x ≡ tried p (figuresIn s) (Stop why days)
 
+-- a step that fails
+pub fails-so : (s : Carried) → enteredAs (figuresIn s) Fails ≡ unsoundAt (figuresIn s)
+unfolding enteredAs
+fails-so s = refl
+
 -- ---- the numbers of figures stand for them
 module _ (p : Plan) (f : Figures) (kind : p .kind ≡ 1) (s : Carried) (same : s ≡ carriedFrom f) where
   kept-left : Left p f → figuresIn s ≡ f
@@ -122,7 +127,7 @@ module _ (p : Plan) (s : Carried) (on : OnCredit p s) where
 
     stepped-so : stepped p (askedLot p (figuresIn s) label N d D) (figuresIn s) ≡ figuresIn after
     unfolding after askedLot figuresIn creditStep isCredit levelStep isLevel
-    stepped-so = lot-numbers (s .credit .0) noLevel (s .accepted) (s .above) p label N _ d D ∙ rw (judged-so, on .kind)
+    stepped-so = lot-numbers (s .credit .0) noLevel (s .accepted) (s .above) p label N _ d D _ ∙ rw (judged-so, on .kind)
 
     lot-given : (b : Bool) → mayFollow (leastLot false) (s .above) label N && countsAgree v N n d D ≡ b → LotGives p s label N d D (cond b (Stands after) Fails)
     unfolding enteredAs soundAt unsoundAt
@@ -181,7 +186,7 @@ pub ruleset calls = (call-on, lot-called, stop-called)
 
 pub ruleset loops = (turns, kept-ready)
 
-pub ruleset takes = (lot-records, lots)
+pub ruleset takes = (lot-records, lots, fails-so)
 
 pub ruleset stops = (stop-stands, stop-fails)
 

@@ -22,8 +22,8 @@ use Rattle.model.specs.declared.Entry.{Entry}
 use Rattle.model.specs.declared.Entry.the-variants.{Lot, Run, Block, Stop}
 use Rattle.model.specs.Stations.{isCredit, isLevel, isContinuous, hasOption}
 use Rattle.model.specs.Figuring.{sampleAsked, verdictOn, creditStep, levelStep}
-use Rattle.model.specs.Calls.{firstOf, entryRefusals, isDiscontinued, sizeInRange, countsAgree, accepts}
-use Rattle.model.proofs.Allowed.{level-plan}
+use Rattle.model.specs.Calls.{firstOf, ruleRefusals, isDiscontinued, sizeInRange, countsAgree, allows}
+use Rattle.model.proofs.Allowed.{accepted-parts, level-plan}
 use Rattle.model.proofs.Booleans.{both-true}
 use Rattle.rules.specs.Refusing.{mayFollow, isStop}
 use Rattle.model.specs.declared.Record.{Record}
@@ -39,24 +39,31 @@ use Rattle.replay_level.specs.declared.Step.{Step}
 use Rattle.replay_level.specs.declared.Step.the-variants.{Stands, Fails}
 use Rattle.replay_level.specs.Carrying.{figuresIn, carriedFrom, OnLevel, Running, fitsSample, enteredAs}
 
+-- a step that fails
+pub fails-so : (s : Carried) → enteredAs (figuresIn s) Fails ≡ unsoundAt (figuresIn s)
+unfolding enteredAs
+fails-so s = refl
+
 -- ---- a discontinued stream takes nothing
 module _ (p : Plan) (f : Figures) (kind : p .kind ≡ 2) (ended : isDiscontinued f ≡ true) where
-  none-accepted : (e : Entry) → accepts p f 0 e ≡ false
-  unfolding accepts firstOf entryRefusals isContinuous
-  none-accepted (Lot label N n d D) = rw (kind, ended)
-  none-accepted (Run h w) = rw kind
-  none-accepted (Block q w) = rw kind
-  none-accepted (Stop why days) = rw ended
+  none-allowed : (e : Entry) → allows p f 0 e ≡ false
+  unfolding allows firstOf ruleRefusals isContinuous
+  none-allowed (Lot label N n d D rec) = rw (kind, ended)
+  none-allowed (Run h w rec) = rw kind
+  none-allowed (Block q w rec) = rw kind
+  none-allowed (Stop why days) = rw ended
 
 pub call-ended : (p : Plan) (f : Figures) (e : Entry) (ended : Bool) → ended ≡ isDiscontinued f → ended ≡ true → p .kind ≡ 2
     → enteredWith false f ≡ tried p f e
 unfolding tried
-call-ended p f e ended tested is kind = rw (none-accepted p f kind (sym tested ∙ is) e)
+call-ended p f e ended tested is kind = rw (none-allowed p f kind (sym tested ∙ is) e)
 
 module _ (p : Plan) (s : Carried) (on : OnLevel p s) where
   pub record-ended : (r : Record) → s .state .level ≡ discontinued → enteredAs (figuresIn s) Fails ≡ entered p (figuresIn s) 0 r
   unfolding entered stands enteredAs unsoundAt isDiscontinued figuresIn lotFigures
-  record-ended r ended = rw (none-accepted p (figuresIn s) (on .kind) (eq-eqb _ _ ended) (entryOf p (figuresIn s) r), and-false (wellFormed r))
+  record-ended r ended =
+      let e : Entry = entryOf p (figuresIn s) r in
+      rw (accepted-parts p (figuresIn s) 0 e, none-allowed p (figuresIn s) (on .kind) (eq-eqb _ _ ended) e, and-false (wellFormed r))
 
   pub goes-on : (s .state .level ≡ discontinued → ⊥) → Running p s
   unfolding isDiscontinued figuresIn lotFigures
@@ -117,7 +124,7 @@ module _ (p : Plan) (s : Carried) (run : Running p s) where
         by-test enteredAs _ _ Fails b _ refl refl
         ∙ sym
         (lot-tried p (figuresIn s) (run .goesOn) (lots p s (run .on)) label N d D
-        ∙ rw (lot-numbers 0 (s .state) (s .accepted) (s .above) p label N _ d D, run .on .kind, agree, test))
+        ∙ rw (lot-numbers 0 (s .state) (s .accepted) (s .above) p label N _ d D _, run .on .kind, agree, test))
 
   stop-told : (why days : ℕ) (b : Bool) → isStop why days ≡ b
       → StopGives p s why days (cond b (Stands (record { state = metStop why days (s .state); accepted = s .accepted; above = s .above })) Fails)
@@ -190,7 +197,7 @@ pub ruleset calls = (call-ended, call-running, lot-called, stop-called)
 
 pub ruleset loops = (turns, kept-ready)
 
-pub ruleset takes = (lot-records, lots, record-ended, goes-on)
+pub ruleset takes = (lot-records, lots, fails-so, record-ended, goes-on)
 
 pub ruleset stops = (stop-refused, stop-stands)
 

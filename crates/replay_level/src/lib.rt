@@ -12,6 +12,7 @@ ghost use Rattle.model.specs.Records.{recordIn};
 ghost use Rattle.replaying.specs.Replaying.{Ready, ReadAt, replayed, Reached, entered, tried, askedLot};
 ghost use Rattle.replay_level.specs.Carrying.{figuresIn, carriedFrom, OnLevel, Running, fitsSample, enteredAs, toldAs};
 use model::Figures;
+use model::HeardLot;
 use model::Plan;
 use model::Record;
 use model::sizes;
@@ -72,16 +73,9 @@ pub fn replay(area: &[u8], plan: Plan, figures: Figures, from: usize, to: usize)
 }
 
 // A lot more on a level stream's figures, as a call enters it: whether it could stand, and the figures after it.
-pub fn enter_lot(
-    plan: Plan,
-    figures: Figures,
-    label: u32,
-    size: LotSize,
-    wrong: u32,
-    wrong_in_all: u32,
-) -> Entered
+pub fn enter_lot(plan: Plan, figures: Figures, lot: HeardLot) -> Entered
     requires { ⌜ Reached plan figures × (plan .kind ≡ 2) ⌝ }
-    ensures { λ r. ⌜ r ≡ tried plan figures (askedLot plan figures label (size .0) wrong «wrong_in_all») ⌝ }
+    ensures { λ r. ⌜ r ≡ tried plan figures (askedLot plan figures (lot .label) (lot .size .0) (lot .wrong) (lot .«wrong_in_all»)) ⌝ }
 {
     if refusing::is_discontinued(figures) {
         return Entered {
@@ -89,17 +83,7 @@ pub fn enter_lot(
             figures,
         };
     }
-    entered_as(
-        figures,
-        step_lot(
-            plan,
-            carried_from(figures),
-            label,
-            size,
-            wrong,
-            wrong_in_all,
-        ),
-    )
+    entered_as(figures, step_lot(plan, carried_from(figures), lot))
 }
 
 // The same of a stop.
@@ -168,7 +152,8 @@ fn next(area: &[u8], plan: Plan, carried: Carried, at: usize) -> Outcome
     }
 }
 
-// What a record does to the numbers, and whether it could stand: the step of the entry that it holds.
+// What a record does to the numbers, and whether it could stand: the step of the entry that it holds. Without a recording number that can
+// only be a stop, and with one only a lot (paper 02, card 1).
 // Speed: a lot without fault is known by one comparison; taken by `step_lot`, which then has two callers and is not inlined, a long stream takes
 // some twenty times as long.
 fn take(plan: Plan, carried: Carried, read: Record) -> Step
@@ -179,33 +164,38 @@ fn take(plan: Plan, carried: Carried, read: Record) -> Step
     if state.level == level::DISCONTINUED {
         return Step::Fails;
     }
+    if read.recording.number == 0 {
+        return step_stop(plan, carried, replaying::why_of(read), read.a);
+    }
     if replaying::is_faultless(read) {
         return step_good_lot(plan, carried, read.a, LotSize(read.b));
     }
     if replaying::head_of(read) != replaying::LOT {
-        return step_stop(plan, carried, replaying::why_of(read), read.a);
+        return Step::Fails;
     }
-    step_wrong_lot(plan, carried, read.a, LotSize(read.b), read.c, read.d)
+    step_wrong_lot(
+        plan,
+        carried,
+        HeardLot {
+            label: read.a,
+            size: LotSize(read.b),
+            wrong: read.c,
+            wrong_in_all: read.d,
+        },
+    )
 }
 
 // A lot.
-fn step_lot(
-    plan: Plan,
-    carried: Carried,
-    label: u32,
-    size: LotSize,
-    wrong: u32,
-    wrong_in_all: u32,
-) -> Step
+fn step_lot(plan: Plan, carried: Carried, lot: HeardLot) -> Step
     requires { ⌜ Running plan carried ⌝ }
-    ensures { λ r. ⌜ enteredAs (figuresIn carried) r ≡ tried plan (figuresIn carried) (askedLot plan (figuresIn carried) label (size .0) wrong «wrong_in_all») ⌝ }
+    ensures { λ r. ⌜ enteredAs (figuresIn carried) r ≡ tried plan (figuresIn carried) (askedLot plan (figuresIn carried) (lot .label) (lot .size .0) (lot .wrong) (lot .«wrong_in_all»)) ⌝ }
 {
-    if wrong == 0 {
-        if wrong_in_all == 0 {
-            return step_good_lot(plan, carried, label, size);
+    if lot.wrong == 0 {
+        if lot.wrong_in_all == 0 {
+            return step_good_lot(plan, carried, lot.label, lot.size);
         }
     }
-    step_wrong_lot(plan, carried, label, size, wrong, wrong_in_all)
+    step_wrong_lot(plan, carried, lot)
 }
 
 // A lot with nothing wrong is accepted whole, whatever the sample.
@@ -226,29 +216,22 @@ fn step_good_lot(plan: Plan, carried: Carried, label: u32, size: LotSize) -> Ste
 }
 
 // A lot with something wrong is withheld, where refusal 13 leaves it.
-fn step_wrong_lot(
-    plan: Plan,
-    carried: Carried,
-    label: u32,
-    size: LotSize,
-    wrong: u32,
-    wrong_in_all: u32,
-) -> Step
-    requires { ⌜ Running plan carried × ((wrong ≡ 0) × («wrong_in_all» ≡ 0) → ⊥) ⌝ }
-    ensures { λ r. ⌜ enteredAs (figuresIn carried) r ≡ tried plan (figuresIn carried) (askedLot plan (figuresIn carried) label (size .0) wrong «wrong_in_all») ⌝ }
+fn step_wrong_lot(plan: Plan, carried: Carried, lot: HeardLot) -> Step
+    requires { ⌜ Running plan carried × ((lot .wrong ≡ 0) × (lot .«wrong_in_all» ≡ 0) → ⊥) ⌝ }
+    ensures { λ r. ⌜ enteredAs (figuresIn carried) r ≡ tried plan (figuresIn carried) (askedLot plan (figuresIn carried) (lot .label) (lot .size .0) (lot .wrong) (lot .«wrong_in_all»)) ⌝ }
 {
-    if !refusing::may_follow(limits::LEAST_LEVEL_LOT, carried.above, label, size) {
+    if !refusing::may_follow(limits::LEAST_LEVEL_LOT, carried.above, lot.label, lot.size) {
         return Step::Fails;
     }
     let state = carried.state;
-    if !fits_sample(plan.a, state.level, size, wrong, wrong_in_all) {
+    if !fits_sample(plan.a, state.level, lot.size, lot.wrong, lot.wrong_in_all) {
         return Step::Fails;
     }
     let after = state.judge(plan.option == 1, true);
     Step::Stands(Carried {
         state: after,
         accepted: carried.accepted,
-        above: label as u64 + 1,
+        above: lot.label as u64 + 1,
     })
 }
 

@@ -10,7 +10,7 @@ use Rattle.model.specs.Stations.{within}
 use Rattle.model.specs.declared.Record.{Record}
 use Rattle.model.specs.Records.{lotKind, stopKind}
 use Rattle.model.proofs.Booleans.{both-true, within-of}
-use Rattle.replaying.specs.Replaying.{oneNumber, headOf, flagged, pause, change, faultless, holdsStop, whyOf}
+use Rattle.replaying.specs.Replaying.{oneNumber, unrecorded, headOf, flagged, pause, change, faultless, holdsStop, whyOf}
 
 -- the head says kind, flag and the two zero bytes
 pub head-is : (r : Record) (k w : ℕ) → r .kind < 256 → r .flag < 256 → k < 256 → w < 256 → headOf r ≡ flagged k w
@@ -45,15 +45,17 @@ pub record StopForm (r : Record) : Type 0 where
   pub last : r .flag ≤ 2
   pub spare : r .spare ≡ 0
   pub one : oneNumber r ≡ true
+  pub bare : unrecorded r ≡ true
 
 pub stop-held : (r : Record) → StopForm r → holdsStop r ≡ true
 unfolding holdsStop within
-stop-held r form = rw (form .kind, form .spare, form .one, le-leb 1 (r .flag) (form .first), le-leb (r .flag) 2 (form .last))
+stop-held r form = rw (form .kind, form .spare, form .one, form .bare, le-leb 1 (r .flag) (form .first), le-leb (r .flag) 2 (form .last))
 
 pub stop-form : (r : Record) → holdsStop r ≡ true → StopForm r
 unfolding holdsStop
 stop-form r e =
-    let all = both-true (eqb (r .kind) stopKind && within 1 2 (r .flag) && eqb (r .spare) 0) (oneNumber r) e in
+    let whole = both-true (eqb (r .kind) stopKind && within 1 2 (r .flag) && eqb (r .spare) 0 && oneNumber r) (unrecorded r) e in
+    let all = both-true (eqb (r .kind) stopKind && within 1 2 (r .flag) && eqb (r .spare) 0) (oneNumber r) (whole .0) in
     let three = both-true (eqb (r .kind) stopKind && within 1 2 (r .flag)) (eqb (r .spare) 0) (all .0) in
     let two = both-true (eqb (r .kind) stopKind) (within 1 2 (r .flag)) (three .0) in
     let why = within-of 1 2 (r .flag) (two .1) in
@@ -63,21 +65,27 @@ stop-form r e =
       last = why .1;
       spare = eqb-true (r .spare) 0 (three .1);
       one = all .1;
+      bare = whole .1;
     }
 
--- the why of the stop in a record, each answer from what was tested: has it more numbers than one, and which head
-module _ (r : Record) (more : Bool) (counted : more ≡ not (oneNumber r)) where
-  pub why-more : more ≡ true → 0 ≡ whyOf r
-  unfolding whyOf holdsStop
-  why-more e = rw (not-true (oneNumber r) (sym counted ∙ e), and-false _)
+-- the why of the stop in a record, each answer from what was tested: has it more numbers than one, a recording, and which head
+pub why-more : (r : Record) (more : Bool) → more ≡ not (oneNumber r) → more ≡ true → 0 ≡ whyOf r
+unfolding whyOf holdsStop
+why-more r more counted e = rw (not-true (oneNumber r) (sym counted ∙ e), and-false _)
 
-  module _ (one : more ≡ false) (head : ℕ) (said : head ≡ headOf r) where
+pub why-recorded : (r : Record) (has : Bool) → has ≡ not (unrecorded r) → has ≡ true → 0 ≡ whyOf r
+unfolding whyOf holdsStop
+why-recorded r has looked e = rw (not-true (unrecorded r) (sym looked ∙ e), and-false _)
+
+module _ (r : Record) (more has : Bool) (counted : more ≡ not (oneNumber r)) (looked : has ≡ not (unrecorded r)) where
+  module _ (one : more ≡ false) (none : has ≡ false) (head : ℕ) (said : head ≡ headOf r) where
     pub why-headed : r .kind < 256 → r .flag < 256 → (w : ℕ) → 1 ≤ w → w ≤ 2 → head ≡ flagged stopKind w → w ≡ whyOf r
     unfolding whyOf
     why-headed kinds flags w least most e =
         let form = head-is r stopKind w kinds flags (omega arith) (omega arith) (sym said ∙ e) in
         let alone : oneNumber r ≡ true = not-false _ (sym counted ∙ one) in
-        let stop : StopForm r = record { kind = form .0; first = omega arith; last = omega arith; spare = form .2; one = alone } in
+        let bare : unrecorded r ≡ true = not-false _ (sym looked ∙ none) in
+        let stop : StopForm r = record { kind = form .0; first = omega arith; last = omega arith; spare = form .2; one = alone; bare = bare } in
         rw (stop-held r stop) (sym (form .1))
 
     pub why-none : (head ≡ pause → ⊥) → (head ≡ change → ⊥) → 0 ≡ whyOf r
@@ -88,4 +96,4 @@ module _ (r : Record) (more : Bool) (counted : more ≡ not (oneNumber r)) where
         go true e = let stop = stop-form r e in omega arith
         go false e = refl
 
-pub ruleset whys = (needs, why-more, why-headed, why-none)
+pub ruleset whys = (needs, why-more, why-recorded, why-headed, why-none)

@@ -11,7 +11,7 @@ use lib.ListN.{length, getD, take, drop}
 use lib.Seq.{take-add, take-at, drop-at, drop-drop}
 use borrow.Author.Tests.{eqb-true}
 use Rattle.little.specs.Little.{part, AreBytes}
-use Rattle.little.proofs.Laws.{length-part, part-and-rest}
+use Rattle.little.proofs.Laws.{length-part, part-part, part-and-rest}
 use Rattle.model.specs.declared.Plan.{Plan}
 use Rattle.model.specs.declared.Entry.{Entry}
 use Rattle.model.specs.declared.Figures.{Figures}
@@ -22,7 +22,7 @@ use Rattle.model.specs.Records.{recordBytes, recordIn, recordOf, entryOf}
 use Rattle.model.specs.Calls.{firstOf, entryRefusals, admissible, accepts}
 use Rattle.model.specs.Area.{zeros, headerOf, recordsOf, areaOf, planIn, countIn, entriesIn, holds, reading}
 use Rattle.model.proofs.Booleans.{both-true}
-use Rattle.model.proofs.Allowed.{newest-of, count-within, plan-range}
+use Rattle.model.proofs.Allowed.{passed-all, newest-of, count-within, plan-range}
 use Rattle.model.proofs.Keeping.{plan-of, entries-of, opened-admissible, entry-admissible}
 use Rattle.model.proofs.AreaReading.{
   length-records,
@@ -38,7 +38,7 @@ use Rattle.model.proofs.AreaReading.{
   area-of-reading,
 }
 use Rattle.records.specs.Records.{recordAt}
-use Rattle.records.proofs.Laws.{part-bytes, part-part, record-at}
+use Rattle.records.proofs.Laws.{part-bytes, record-at}
 use Rattle.replaying.specs.Replaying.{wellFormed, stands, recordsIn, figuresTo, standTo}
 use Rattle.replaying.proofs.RecordForm.{record-of, formed-of, words-of}
 
@@ -171,7 +171,7 @@ pub record SoundParts (p : Plan) (es : List Entry) (area : List ℕ) : Type 0 wh
 entry-stands : (p : Plan) (f : Figures) (i : ℕ) (e : Entry) → firstOf (entryRefusals p f i e) ≡ 0
     → T (allWords (entryArguments e)) → stands p f i (recordIn (recordBytes (recordOf e))) ≡ true
 unfolding stands accepts
-entry-stands p f i e h t = rw (formed-of e, entry-read p f i e h t, h)
+entry-stands p f i e h t = rw (formed-of e, entry-read p f i e (passed-all p f i e h .allowed) t, h)
 
 module _ (p : Plan) (es : List Entry) (area rest : List ℕ) (records : recordsIn area ≡ recordsOf es ++ rest) where
   -- the figures after those records

@@ -11,11 +11,11 @@ use Rattle.model.specs.declared.Entry.{Entry}
 use Rattle.model.specs.declared.Entry.the-variants.{Lot}
 use Rattle.model.specs.declared.Figures.{Figures}
 use Rattle.model.specs.declared.Record.{Record}
-use Rattle.model.specs.Calls.{accepts, admissible}
+use Rattle.model.specs.Calls.{allows, accepts, admissible}
 use Rattle.model.specs.Sizes.{recordLength, headerLength, mostRecords, areaLength}
 use Rattle.model.specs.Stations.{validPlan, within}
 use Rattle.model.specs.Figuring.{sampleAsked, started, stepped, figuresOf}
-use Rattle.model.specs.Records.{lotKind, runKind, blockKind, stopKind, recordIn, entryOf}
+use Rattle.model.specs.Records.{noRecording, lotKind, runKind, blockKind, stopKind, recordIn, entryOf}
 use Rattle.model.specs.Area.{entriesIn}
 use Rattle.records.specs.Records.{recordAt}
 use Rattle.replaying.specs.declared.Entered.{Entered}
@@ -24,12 +24,16 @@ use Rattle.replaying.specs.declared.Entered.{Entered}
 abbrev pub oneNumber : Record → Bool
 oneNumber r = eqb (r .b) 0 && eqb (r .c) 0 && eqb (r .d) 0
 
+-- a record with zeros in place of a recording
+abbrev pub unrecorded : Record → Bool
+unrecorded r = eqb (r .recording .number) 0 && eqb (r .recording .second) 0
+
 -- a record of a kind that exists, with zeros wherever its kind has nothing to say
 unfoldable pub wellFormed : Record → Bool
 wellFormed r =
     eqb (r .spare) 0
     && cond (eqb (r .kind) lotKind) (eqb (r .flag) 0)
-    ((eqb (r .kind) runKind || eqb (r .kind) blockKind || eqb (r .kind) stopKind) && oneNumber r)
+    ((eqb (r .kind) runKind || eqb (r .kind) blockKind || (eqb (r .kind) stopKind && unrecorded r)) && oneNumber r)
 
 -- the first four bytes of a record as one number
 unfoldable pub headOf : Record → ℕ
@@ -56,10 +60,10 @@ change = flagged stopKind 2
 unfoldable pub faultless : Record → Bool
 faultless r = eqb (headOf r) lotKind && (eqb (r .c) 0 && eqb (r .d) 0)
 
--- the record of a stop that was accepted, paper 01, "The store": kind 4, its why as the flag, two zero bytes, its days, and zeros; the why
--- is one of those that there are, 1 or 2
+-- the record of a stop that was accepted, paper 01, "The store": kind 4, its why as the flag, two zero bytes, its days, and zeros, also in
+-- place of a recording; the why is one of those that there are, 1 or 2
 unfoldable pub holdsStop : Record → Bool
-holdsStop r = eqb (r .kind) stopKind && within 1 2 (r .flag) && eqb (r .spare) 0 && oneNumber r
+holdsStop r = eqb (r .kind) stopKind && within 1 2 (r .flag) && eqb (r .spare) 0 && oneNumber r && unrecorded r
 
 -- the why of the stop that a record holds, 0 where it holds none, or one for a why that there is not: 15 refuses both
 unfoldable pub whyOf : Record → ℕ
@@ -77,13 +81,14 @@ enteredIf test after before = record { sound = test; figures = cond test after b
 unfoldable pub entered : Plan → Figures → ℕ → Record → Entered
 entered p f i r = enteredIf (stands p f i r) (stepped p (entryOf p f r) f) f
 
--- what an entry gives wherever a place is free: whether it is accepted, and the figures after it
+-- what an entry gives wherever a place is free: whether paper 01's rules allow it, and the figures after it. They look at no recording, so that
+-- an entry is tried without one
 unfoldable pub tried : Plan → Figures → Entry → Entered
-tried p f e = enteredIf (accepts p f 0 e) (stepped p e f) f
+tried p f e = enteredIf (allows p f 0 e) (stepped p e f) f
 
 -- a lot with the sample that was asked
 unfoldable pub askedLot : Plan → Figures → ℕ → ℕ → ℕ → ℕ → Entry
-askedLot p f label N d D = Lot label N (sampleAsked p f N) d D
+askedLot p f label N d D = Lot label N (sampleAsked p f N) d D noRecording
 
 -- figures that calls could have left, with a place free for one entry more
 pub record Reached (p : Plan) (f : Figures) : Type 0 where

@@ -3,7 +3,7 @@
 ghost use mathlib.Core.Path.{_≡_};
 ghost use mathlib.Core.Bool.{not};
 ghost use Prim.Native.Nat.{_<_};
-ghost use Rattle.replaying.specs.Replaying.{headOf, oneNumber, faultless, whyOf};
+ghost use Rattle.replaying.specs.Replaying.{headOf, oneNumber, unrecorded, faultless, whyOf};
 use model::Figures;
 use model::Record;
 use plans::stops;
@@ -45,6 +45,14 @@ pub fn has_more(read: Record) -> bool
     (read.b as u64 + read.c as u64 * 4294967296) | read.d as u64 != 0
 }
 
+// Whether a record has a recording's number or second.
+pub fn has_recording(read: Record) -> bool
+    ensures { λ r. ⌜ r ≡ not (unrecorded read) ⌝ }
+{
+    let recording = read.recording;
+    recording.number as u64 + recording.second as u64 * 4294967296 != 0
+}
+
 // Is a record a lot's, with nothing wrong in the sample, nor in all that was heard? A lot's head is 1, and the two counts add only even numbers
 // to it, so one comparison tells.
 // Speed: it is with 1, since the compiler takes 'is 0' for the rare outcome and puts good lots out of the way; with 0 a long stream of good
@@ -60,6 +68,9 @@ pub fn why_of(read: Record) -> u32
     ensures { λ r. ⌜ r ≡ whyOf read ⌝ }
 {
     if has_more(read) {
+        return 0;
+    }
+    if has_recording(read) {
         return 0;
     }
     let head = head_of(read);

@@ -5,13 +5,14 @@ use mathlib.Core.Path.{_≡_, refl, sym, _∙_}
 use mathlib.Core.Bool.{Bool, true, false, cond, not, _||_}
 use mathlib.Core.List.{List, [], _∷_}
 use lib.Dec.{eqb}
-use borrow.Author.Tests.{eqb-true, eq-eqb, ne-eqb, lt-ltb, le-ltb, le-leb, lt-leb}
+use borrow.Author.Tests.{eqb-true, eq-eqb, ne-eqb, lt-ltb, le-ltb, le-leb, lt-leb, not-true, not-false}
 use Rattle.model.specs.declared.Plan.{Plan}
 use Rattle.model.specs.declared.Entry.{Entry}
 use Rattle.model.specs.declared.Entry.the-variants.{Lot, Run, Block, Stop}
 use Rattle.model.specs.declared.Figures.{Figures}
-use Rattle.model.specs.Calls.{Refusal, refuse, firstOf, entryRefusals, accepts}
-use Rattle.rules.specs.Refusing.{earlier}
+use Rattle.model.specs.declared.Recording.{Recording}
+use Rattle.model.specs.Calls.{Refusal, refuse, firstOf, ruleRefusals, allows}
+use Rattle.rules.specs.Refusing.{earlier, behindEarlier}
 
 -- the first applies, or it is passed
 pub given : (n : ℕ) (applies : Bool) (rs : List Refusal) → applies ≡ true → n ≡ firstOf (refuse n applies ∷ rs)
@@ -76,13 +77,31 @@ pub ruleset in-turn = (
   lt-leb,
 )
 
+-- ---- behind the earlier ones
+
+module _ (sound : Bool) (last : ℕ) (rec : Recording) where
+  pub step-fails : not sound ≡ true → last ≡ behindEarlier sound last rec
+  unfolding behindEarlier
+  step-fails fails = rw (not-true sound fails)
+
+  module _ (stands : not sound ≡ false) where
+    pub no-number : rec .number ≡ 0 → 17 ≡ behindEarlier sound last rec
+    unfolding behindEarlier
+    no-number none = rw (not-false sound stands, none)
+
+    pub nothing-left : (rec .number ≡ 0 → ⊥) → 0 ≡ behindEarlier sound last rec
+    unfolding behindEarlier
+    nothing-left some = rw (not-false sound stands, ne-eqb (rec .number) 0 some)
+
+pub ruleset behind = (step-fails, no-number, nothing-left)
+
 -- ---- what the earlier ones tell of the whole list
 
 -- the last of an entry's: it is given where no earlier one applies and the step of the plan fails
 abbrev pub lastOf : Entry → ℕ
-lastOf (Lot label N n d D) = 13
-lastOf (Run h w) = 14
-lastOf (Block q w) = 14
+lastOf (Lot label N n d D rec) = 13
+lastOf (Run h w rec) = 14
+lastOf (Block q w rec) = 14
 lastOf (Stop why days) = 15
 
 -- one of them applies: it is the first of all
@@ -123,10 +142,10 @@ last-or-none (r ∷ s ∷ rs) none = go (r .applies) none (last-or-none (s ∷ r
     go true e rest = given-zero (r .number) (lastNumber (s ∷ rs)) e
     go false e rest = rest e
 
-pub last-decides : (p : Plan) (f : Figures) (count : ℕ) (e : Entry) → firstOf (earlier (entryRefusals p f count e)) ≡ 0
-    → firstOf (entryRefusals p f count e) ≡ cond (accepts p f count e) 0 (lastOf e)
-unfolding entryRefusals accepts lastNumber
-last-decides p f count (Lot label N n d D) none = last-or-none (entryRefusals p f count (Lot label N n d D)) none
-last-decides p f count (Run h w) none = last-or-none (entryRefusals p f count (Run h w)) none
-last-decides p f count (Block q w) none = last-or-none (entryRefusals p f count (Block q w)) none
-last-decides p f count (Stop why days) none = last-or-none (entryRefusals p f count (Stop why days)) none
+pub last-decides : (p : Plan) (f : Figures) (count : ℕ) (e : Entry) → firstOf (earlier (ruleRefusals p f count e)) ≡ 0
+    → firstOf (ruleRefusals p f count e) ≡ cond (allows p f count e) 0 (lastOf e)
+unfolding ruleRefusals allows lastNumber
+last-decides p f count (Lot label N n d D rec) none = last-or-none (ruleRefusals p f count (Lot label N n d D rec)) none
+last-decides p f count (Run h w rec) none = last-or-none (ruleRefusals p f count (Run h w rec)) none
+last-decides p f count (Block q w rec) none = last-or-none (ruleRefusals p f count (Block q w rec)) none
+last-decides p f count (Stop why days) none = last-or-none (ruleRefusals p f count (Stop why days)) none

@@ -16,8 +16,8 @@ use crate::asking;
 use crate::plan;
 use model::Answer;
 use model::Figures;
+use model::HeardLot;
 use model::Plan;
-use plans::LotSize;
 use plans::continuous;
 use plans::verdict;
 
@@ -71,19 +71,12 @@ fn lot_figure(plan: Plan, figures: Figures) -> u32
 }
 
 // What an accepted lot gives, from the figures before and after it.
-pub fn lot(
-    plan: Plan,
-    figures: Figures,
-    after: Figures,
-    size: LotSize,
-    wrong: u32,
-    wrong_in_all: u32,
-) -> Answer
-    requires { ⌜ «wrong_in_all» ≤ size .0 ⌝ }
-    ensures { λ r. ⌜ r ≡ givesThese (verdictOn plan figures wrong) (acceptedOf (verdictOn plan figures wrong) (size .0) «wrong_in_all») (lotFigure plan after) ⌝ }
+pub fn lot(plan: Plan, figures: Figures, after: Figures, lot: HeardLot) -> Answer
+    requires { ⌜ lot .«wrong_in_all» ≤ lot .size .0 ⌝ }
+    ensures { λ r. ⌜ r ≡ givesThese (verdictOn plan figures (lot .wrong)) (acceptedOf (verdictOn plan figures (lot .wrong)) (lot .size .0) (lot .«wrong_in_all»)) (lotFigure plan after) ⌝ }
 {
-    let verdict = asking::verdict(plan, figures, wrong);
-    let accepted = verdict::accepted_of(verdict, size, wrong_in_all);
+    let verdict = asking::verdict(plan, figures, lot.wrong);
+    let accepted = verdict::accepted_of(verdict, lot.size, lot.wrong_in_all);
     gives(verdict, accepted, lot_figure(plan, after))
 }
 

@@ -1,5 +1,6 @@
 // Which refusal a call gets on an opened stream: paper 01, "Calls", each list of refusals in the paper's order. The last of a call that
 // enters something (13 of a lot, 14 of a run or block, 15 of a stop) is not in these lists: it is given where the step of the plan fails.
+// Nor is 17 (paper 02, card 1), which comes behind it: `behind_earlier` has both.
 // The tests that the steps share stand below.
 ghost use mathlib.Core.Path.{_≡_};
 ghost use mathlib.Core.Bool.{not, _&&_, _||_};
@@ -7,16 +8,16 @@ ghost use Prim.Native.Nat.{_+_, _-_, _≤_};
 ghost use Rattle.plans.specs.Limits.{largestLot};
 ghost use Rattle.plans.specs.Verdicts.{lotHeard, lotWithheld};
 ghost use lib.Dec.{T, eqb};
-ghost use Rattle.model.specs.declared.Entry.the-variants.{Run, Block};
 ghost use Rattle.model.specs.Sizes.{mostRecords};
 ghost use Rattle.model.specs.Stations.{validPlan, within, isLevel};
 ghost use Rattle.model.specs.Calls.{firstOf, askRefusals, isDiscontinued, sameLabel, sizeInRange, countsAgree};
 ghost use Rattle.model.specs.FigureBounds.{FiguresWithin};
-ghost use Rattle.rules.specs.Refusing.{LotUpToLast, RunOrBlockUpToLast, StopUpToLast, mayFollow, isStop};
+ghost use Rattle.rules.specs.Refusing.{LotUpToLast, RunUpToLast, BlockUpToLast, StopUpToLast, behindEarlier, mayFollow, isStop};
 use crate::asking;
 use crate::plan;
 use model::Figures;
 use model::Plan;
+use model::Recording;
 use model::sizes::MOST_RECORDS;
 use plans::LotSize;
 use plans::SampleSize;
@@ -60,7 +61,7 @@ pub fn lot(
 
 // The refusal of a run, up to 15.
 pub fn run(plan: Plan, count: usize, right: u32, wrong: u32) -> u32
-    ensures { λ r. ⌜ RunOrBlockUpToLast plan count (Run right wrong) r ⌝ }
+    ensures { λ r. ⌜ RunUpToLast plan count right wrong r ⌝ }
 {
     if plan.kind != plan::CONTINUOUS {
         return 7;
@@ -82,7 +83,7 @@ pub fn run(plan: Plan, count: usize, right: u32, wrong: u32) -> u32
 
 // The refusal of a block, up to 15.
 pub fn block(plan: Plan, count: usize, heard: u32, wrong: u32) -> u32
-    ensures { λ r. ⌜ RunOrBlockUpToLast plan count (Block heard wrong) r ⌝ }
+    ensures { λ r. ⌜ BlockUpToLast plan count heard wrong r ⌝ }
 {
     if plan.kind != plan::CONTINUOUS {
         return 7;
@@ -108,6 +109,19 @@ pub fn stop(figures: Figures, count: usize) -> u32
     }
     if MOST_RECORDS <= count {
         return 9;
+    }
+    0
+}
+
+// What comes behind these refusals of a lot, run or block: the last of paper 01's list, where the step of the plan fails, and then 17.
+pub fn behind_earlier(sound: bool, last: u32, recording: Recording) -> u32
+    ensures { λ r. ⌜ r ≡ behindEarlier sound last recording ⌝ }
+{
+    if !sound {
+        return last;
+    }
+    if recording.number == 0 {
+        return 17;
     }
     0
 }

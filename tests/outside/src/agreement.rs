@@ -5,7 +5,7 @@
 use crate::{at, same, Make};
 use reference::{
     area_at, area_bytes, call_on_store, figures, header, plain_frames, read_area, record_at, Caller, Entry, Frame, Random, Station,
-    AREA, CREDIT, FULL, LOT, OPEN, RECORD, RECORDS_FROM, STOP, STORE, STREAMS,
+    AREA, CREDIT, FULL, LOT, NEWEST, OPEN, RECORD, RECORDS_FROM, STOP, STORE, STREAMS,
 };
 
 // Damage is done after every so many calls of a list, so many times.
@@ -39,7 +39,7 @@ pub fn agrees(make: Make, seed: u64, calls: usize, compared: &mut Compared) -> R
 }
 
 /// Makes calls where random ones hardly get: stores of another length; a sample without a rest, with one wrong more than it; a number
-/// whose low bytes would do.
+/// whose low bytes would do; a recording whose number is 0 and whose second is not; a count whose low bytes would do.
 pub fn agrees_at_edges(make: Make, compared: &mut Compared) -> Result<(), String> {
     for length in [0, STORE - 1, STORE + 1] {
         for frame in plain_frames(0) {
@@ -47,9 +47,13 @@ pub fn agrees_at_edges(make: Make, compared: &mut Compared) -> Result<(), String
         }
     }
     let calls = [
-        (OPEN, [CREDIT, 0, 10_000, 0, 0]),
-        (LOT, [1, 9_900, 99, 100, 100]),
-        (STOP, [1 << 24 | 1, 2, 0, 0, 0]),
+        (OPEN, [CREDIT, 0, 10_000, 0, 0, 0, 0]),
+        (LOT, [1, 9_900, 99, 100, 100, 1, 0]),
+        (STOP, [1 << 24 | 1, 2, 0, 0, 0, 0, 0]),
+        (LOT, [1, 9_900, 99, 0, 0, 0, 1]),
+        (LOT, [1, 9_900, 99, 0, 0, 1 << 24, u32::MAX]),
+        (STOP, [1, 2, 0, 0, 0, 0, 0]),
+        (NEWEST, [1 << 24 | 1, 0, 0, 0, 0, 0, 0]),
     ];
     let mut store = vec![0; STORE];
     for (call, args) in calls {
@@ -137,12 +141,22 @@ fn forged(random: &mut Random, mut station: Station) -> Station {
             };
             match &mut entries[at] {
                 // No more than the lot has, and no place outside the block: the reference's figures do not go below 0.
-                Entry::Lot { label, size, d, all } => match random.below(4) {
+                Entry::Lot {
+                    label,
+                    size,
+                    d,
+                    all,
+                    recording,
+                } => match random.below(5) {
                     0 => *label = other(*label % 7, random),
                     1 => *size = other(*size, random).max(*all),
                     2 => *d = other(*d, random),
+                    3 => recording.number = random.pick(&[0, 0, 1, u32::MAX]),
                     _ => *all = other(*all, random).min(*size),
                 },
+                Entry::Run { recording, .. } | Entry::Block { recording, .. } if random.chance(1, 3) => {
+                    recording.number = random.pick(&[0, 0, 1, u32::MAX])
+                }
                 Entry::Run { h, .. } => *h = other(*h, random),
                 Entry::Block { p, .. } => *p = other(*p, random).clamp(1, b),
                 Entry::Stop { days, .. } => *days = other(*days, random),

@@ -3,7 +3,7 @@
 use reference::{area_at, header, record, record_at, Place, Random, AREA, FULL, RECORD, RECORDS_FROM, STREAMS};
 
 /// Parts of which one byte may be changed so that some other list of calls could have left the area.
-pub const SOUND_BY_ONE_BYTE: [&str; 9] = [
+pub const SOUND_BY_ONE_BYTE: [&str; 15] = [
     "option",
     "A",
     "B",
@@ -13,6 +13,25 @@ pub const SOUND_BY_ONE_BYTE: [&str; 9] = [
     "block: p",
     "stop: why",
     "stop: days",
+    "lot: recording",
+    "run: recording",
+    "block: recording",
+    "lot: second",
+    "run: second",
+    "block: second",
+];
+
+/// Parts of which every byte is free: any second is one.
+pub const ALWAYS_SOUND_BY_ONE_BYTE: [&str; 3] = ["lot: second", "run: second", "block: second"];
+
+/// Parts whose bytes are zero in every sound area.
+pub const NEVER_SOUND_BY_ONE_BYTE: [&str; 6] = [
+    "unused",
+    "unused numbers of a record",
+    "zero bytes of a record",
+    "stop: recording",
+    "stop: second",
+    "after the last record",
 ];
 
 const HEADER: [(&str, Place); 14] = [
@@ -44,23 +63,41 @@ pub fn part(area: &[u8], byte: usize) -> &'static str {
 
 fn record_part(bytes: &[u8], byte: usize) -> &'static str {
     const UNUSED: &str = "unused numbers of a record";
-    let (flag, numbers) = match record::KIND.get(bytes) {
+    let (flag, numbers, recording) = match record::KIND.get(bytes) {
         0 => return "after the last record",
-        1 => ("lot: flag", ["lot: label", "lot: N", "lot: d", "lot: D"]),
-        2 => ("run: w", ["run: h", UNUSED, UNUSED, UNUSED]),
-        3 => ("block: w", ["block: p", UNUSED, UNUSED, UNUSED]),
-        _ => ("stop: why", ["stop: days", UNUSED, UNUSED, UNUSED]),
+        1 => (
+            "lot: flag",
+            ["lot: label", "lot: N", "lot: d", "lot: D"],
+            ["lot: recording", "lot: second"],
+        ),
+        2 => (
+            "run: w",
+            ["run: h", UNUSED, UNUSED, UNUSED],
+            ["run: recording", "run: second"],
+        ),
+        3 => (
+            "block: w",
+            ["block: p", UNUSED, UNUSED, UNUSED],
+            ["block: recording", "block: second"],
+        ),
+        _ => (
+            "stop: why",
+            ["stop: days", UNUSED, UNUSED, UNUSED],
+            ["stop: recording", "stop: second"],
+        ),
     };
     match record::NUMBERS.iter().position(|place| place.contains(byte)) {
         Some(k) => numbers[k],
         None if record::KIND.contains(byte) => "record kind",
         None if record::FLAG.contains(byte) => flag,
+        None if record::RECORDING.contains(byte) => recording[0],
+        None if record::SECOND.contains(byte) => recording[1],
         None => "zero bytes of a record",
     }
 }
 
 /// Changes of a whole area that may leave it sound.
-pub const SOUND_AS_A_WHOLE: [&str; 8] = [
+pub const SOUND_AS_A_WHOLE: [&str; 9] = [
     "two neighbouring records swapped",
     "N moved from one lot to another",
     "N, credit and accepted raised",
@@ -68,19 +105,33 @@ pub const SOUND_AS_A_WHOLE: [&str; 8] = [
     "h moved from one run to another",
     "a stop added",
     "the newest record removed",
+    ANOTHER_RECORDING,
     ANOTHER_AREA,
 ];
 
-/// The change that always does: an area does not know its stream.
-pub const ALWAYS_SOUND: [&str; 1] = [ANOTHER_AREA];
+/// The changes that always do: a lot, run or block may have any recording but 0, and an area does not know its stream.
+pub const ALWAYS_SOUND: [&str; 2] = [ANOTHER_RECORDING, ANOTHER_AREA];
+const ANOTHER_RECORDING: &str = "another recording";
 const ANOTHER_AREA: &str = "another stream's area";
+
+/// Changes that never leave an area sound: a recording is found exactly where a lot, run or block stands.
+pub const NEVER_SOUND: [&str; 7] = [
+    "recording number 0",
+    "recording lost",
+    "a recording put on a stop",
+    "a second put on a stop",
+    "a recording and a second put on a stop",
+    "a recording behind the last record",
+    "a second behind the last record",
+];
 
 /// Changes an area with so many records in one way of many, and names it. The store is where other areas are.
 pub fn change(random: &mut Random, count: usize, area: &mut [u8], store: &[u8]) -> &'static str {
-    match random.below(9) {
+    match random.below(11) {
         0 => change_all(random, area, store),
         1..=3 => change_header(random, count, area),
         4..=5 if count > 0 => change_number(random, count, area),
+        6..=7 => change_recording(random, count, area),
         _ if count > 0 => change_records(random, count, area),
         _ => change_header(random, count, area),
     }
@@ -164,6 +215,51 @@ fn change_number(random: &mut Random, count: usize, area: &mut [u8]) -> &'static
             let byte = here + random.below(RECORD);
             area[byte] = area[byte].wrapping_add(random.pick(&[1, 255]));
             "one byte of a record"
+        }
+    }
+}
+
+/// Recordings: of a standing record, or behind the last.
+fn change_recording(random: &mut Random, count: usize, area: &mut [u8]) -> &'static str {
+    let some = |random: &mut Random| random.pick(&[1, 255, 256, 1 << 31, u32::MAX]).into();
+    let behind = count < FULL && (count == 0 || random.chance(1, 5));
+    let record = &mut area[record_at(if behind { count } else { random.below(count) })];
+    let stop = record::KIND.get(record) == 4;
+    match random.below(4) {
+        0 | 1 if behind => {
+            record::RECORDING.put(record, some(random));
+            "a recording behind the last record"
+        }
+        _ if behind => {
+            record::SECOND.put(record, some(random));
+            "a second behind the last record"
+        }
+        0 if stop => {
+            record::RECORDING.put(record, some(random));
+            "a recording put on a stop"
+        }
+        1 if stop => {
+            record::SECOND.put(record, some(random));
+            "a second put on a stop"
+        }
+        _ if stop => {
+            record::RECORDING.put(record, some(random));
+            record::SECOND.put(record, some(random));
+            "a recording and a second put on a stop"
+        }
+        0 => {
+            record::RECORDING.put(record, 0);
+            "recording number 0"
+        }
+        1 => {
+            record::RECORDING.put(record, 0);
+            record::SECOND.put(record, 0);
+            "recording lost"
+        }
+        _ => {
+            record::RECORDING.put(record, some(random));
+            record::SECOND.put(record, random.odd().into());
+            ANOTHER_RECORDING
         }
     }
 }

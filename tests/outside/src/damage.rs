@@ -1,12 +1,14 @@
 //! Areas whose bytes were changed: refusal 3 exactly where the reference reads the area as unsound, with every byte kept; where it
-//! is sound still (another label, another limit), the answers and bytes of that other area.
+//! is sound still (another label, another limit, another recording), the answers, parts and bytes of that other area.
 
-use crate::changes::{change, part, ALWAYS_SOUND, SOUND_AS_A_WHOLE, SOUND_BY_ONE_BYTE};
+use crate::changes::{
+    change, part, ALWAYS_SOUND, ALWAYS_SOUND_BY_ONE_BYTE, NEVER_SOUND, NEVER_SOUND_BY_ONE_BYTE, SOUND_AS_A_WHOLE, SOUND_BY_ONE_BYTE,
+};
 use crate::{said, Done, Setting};
-use outside::{at, make, same};
+use outside::{at, hands_back, make, same};
 use reference::{
-    answer, area_at, area_bytes, call_of, call_on_store, plain_frames, read_area, Call, Caller, Frame, Random, Station, AREA, FULL,
-    LOT, STORE, STREAMS,
+    answer, area_at, area_bytes, call_of, call_on_store, newest_part, plain_frames, read_area, Call, Caller, Frame, Random,
+    Station, AREA, FULL, LOT, NEWEST, STORE, STREAMS,
 };
 use std::collections::BTreeMap;
 
@@ -24,7 +26,7 @@ pub fn every_byte(setting: &Setting) -> Result<Done, String> {
     let stations = stations(setting.seed, setting.times as usize);
     for station in &stations {
         let area = area_bytes(station);
-        let frames = eight_frames(random.range(0, STREAMS - 1), station);
+        let frames = accepted_frames(random.range(0, STREAMS - 1), station);
         for byte in 0..AREA {
             for value in [area[byte].wrapping_add(1), area[byte].wrapping_sub(1), random.byte()] {
                 let mut changed = area.clone();
@@ -37,7 +39,7 @@ pub fn every_byte(setting: &Setting) -> Result<Done, String> {
             }
         }
     }
-    met.complete(&SOUND_BY_ONE_BYTE, &[])?;
+    met.complete(&SOUND_BY_ONE_BYTE, &ALWAYS_SOUND_BY_ONE_BYTE, &NEVER_SOUND_BY_ONE_BYTE)?;
     let what = format!(
         "{} calls on {} areas of which each byte was changed in turn, seed {}: {}",
         tried.calls,
@@ -58,7 +60,7 @@ pub fn whole_areas(setting: &Setting) -> Result<Done, String> {
     for seed in seeds.clone() {
         calls += changed_list(seed, &mut met)?;
     }
-    met.complete(&SOUND_AS_A_WHOLE, &ALWAYS_SOUND)?;
+    met.complete(&SOUND_AS_A_WHOLE, &ALWAYS_SOUND, &NEVER_SOUND)?;
     let what = format!(
         "{calls} calls on areas changed in one or two ways, {}: {}",
         said(&seeds),
@@ -76,13 +78,21 @@ impl Met {
         self.0.entry(kind).or_default()[usize::from(!sound)] += 1;
     }
 
-    /// Each kind that can leave an area sound did, and each that can leave it unsound did.
-    fn complete(&self, sound: &[&str], always_sound: &[&str]) -> Result<(), String> {
+    /// Each kind that can leave an area sound did, each that can leave it unsound did, and none did what it cannot.
+    fn complete(&self, sound: &[&str], always_sound: &[&str], never_sound: &[&str]) -> Result<(), String> {
         if let Some(kind) = sound.iter().find(|kind| self.0.get(*kind).is_none_or(|met| met[0] == 0)) {
             return Err(format!("no change left the area sound: {kind}"));
         }
-        match self.0.iter().find(|(kind, met)| met[1] == 0 && !always_sound.contains(kind)) {
-            Some((kind, _)) => Err(format!("no change left the area unsound: {kind}")),
+        if let Some((kind, _)) = self.0.iter().find(|(kind, met)| met[1] == 0 && !always_sound.contains(kind)) {
+            return Err(format!("no change left the area unsound: {kind}"));
+        }
+        if let Some((kind, _)) = self.0.iter().find(|(kind, met)| met[1] > 0 && always_sound.contains(kind)) {
+            return Err(format!("a change left the area unsound, which it cannot: {kind}"));
+        }
+        match never_sound.iter().find(|kind| self.0.get(*kind).is_none_or(|met| met[0] > 0)) {
+            Some(kind) => Err(format!(
+                "a change left the area sound, which it cannot, or was not met: {kind}"
+            )),
             None => Ok(()),
         }
     }
@@ -159,19 +169,24 @@ impl Tried {
             };
             let ours = make(&mut self.store, frame);
             at(|| format!("{frame:?}"), same((ours, &self.store), (theirs, &self.expected)))?;
+            if frame.call == NEWEST {
+                let [count, ..] = frame.args;
+                let part = newest_part(station.as_ref(), frame.stream, count);
+                hands_back(&self.store, frame.stream, count, &part)?;
+            }
             self.calls += 1;
         }
         Ok(station.is_some())
     }
 }
 
-/// The eight calls, each accepted on this station if its plan and state let it.
-fn eight_frames(stream: u32, station: &Station) -> [Frame; 8] {
+/// The nine calls, each accepted on this station if its plan and state let it.
+fn accepted_frames(stream: u32, station: &Station) -> [Frame; NEWEST as usize] {
     const SIZE: u32 = 201;
     let [_, n, _, _] = answer(&mut station.clone(), Call::Ask { size: SIZE });
     plain_frames(stream).map(|mut frame| {
         if frame.call == LOT {
-            frame.args = [987_654_321, SIZE, n, 0, 0];
+            frame.args = [987_654_321, SIZE, n, 0, 0, 123_456_789, 86_399];
         }
         frame
     })
@@ -197,7 +212,7 @@ fn changed_list(seed: u64, met: &mut Met) -> Result<usize, String> {
             ways.push(change(&mut random, station.entries.len(), &mut area, &store));
         }
         let place = || format!("seed {seed}, after call {k}, {frame:?}, the area changed: {ways:?}");
-        let sound = at(place, tried.each_call(&eight_frames(frame.stream, station), &area))?;
+        let sound = at(place, tried.each_call(&accepted_frames(frame.stream, station), &area))?;
         if let ([way], true) = (&ways[..], area != area_bytes(station)) {
             met.count(way, sound);
         }

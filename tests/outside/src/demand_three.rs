@@ -1,13 +1,14 @@
 //! Demand 3 and the backward rules, at run time. The test keeps each stream's standing list itself, from the calls, their arguments
 //! and their refusal numbers, never off the bytes. At many points it makes the accepted Open and the standing entries on another
-//! fresh store, through the library: the stream's area must be the same there, every next call must give the same, and the figures
-//! in the bytes must be those that paper 01's backward rules read off the list.
+//! fresh store, through the library: the stream's area must be the same there, every next call must give the same, the newest records
+//! too, the figures in the bytes must be those that paper 01's backward rules read off the list, and the recordings in the bytes those
+//! that the standing entries brought.
 
 use crate::{said, Done, Setting};
-use outside::{at, first_difference, make, same};
+use outside::{at, first_difference, make, newest, same};
 use reference::{
-    area_at, backward_c, backward_credit, backward_phase, backward_tail, backward_window, call_of, entry_of, header, Call, Caller,
-    Entry, Frame, Plan, CONTINUOUS, CREDIT, LEVEL, STORE, STREAMS,
+    area_at, backward_c, backward_credit, backward_phase, backward_tail, backward_window, call_of, entry_of, header, record,
+    record_at, Call, Caller, Entry, Frame, Plan, BLOCK, CONTINUOUS, CREDIT, FULL, LEVEL, LOT, RUN, STORE, STREAMS,
 };
 
 const LISTS: u64 = 40;
@@ -28,15 +29,19 @@ pub fn test(setting: &Setting) -> Result<Done, String> {
         replays,
         entries,
         deepest,
+        recordings,
         figures,
     } = tally;
-    if deepest < 128 || figures.contains(&0) {
-        return Err(format!("too little was met: deepest {deepest}, figures {figures:?}"));
+    if deepest < FULL || recordings == 0 || figures.contains(&0) {
+        return Err(format!(
+            "too little was met: deepest {deepest}, recordings {recordings}, figures {figures:?}"
+        ));
     }
     let [credits, windows, cs, phases, tails] = figures;
     let what = format!(
-        "{replays} standing lists of {entries} entries, the longest {deepest}, made again on a fresh store, each with {NEXT} next \
-         calls on both, {}; read backwards and not 0: credit {credits}, window {windows}, c {cs}, phase {phases}, u {tails} times",
+        "{replays} standing lists of {entries} entries, {recordings} of them with a recording, the longest {deepest}, made again on a \
+         fresh store, each with {NEXT} next calls and the newest records on both, {}; read backwards and not 0: credit {credits}, \
+         window {windows}, c {cs}, phase {phases}, u {tails} times",
         said(&seeds)
     );
     Ok(Done { calls, what })
@@ -48,6 +53,7 @@ struct Tally {
     replays: usize,
     entries: usize,
     deepest: usize,
+    recordings: usize,
     /// Credit, window, c, phase and u that were not 0.
     figures: [usize; 5],
 }
@@ -69,7 +75,7 @@ impl Standing {
             Call::Back => {
                 self.entries.pop();
             }
-            Call::Ask { .. } | Call::Read => {}
+            Call::Ask { .. } | Call::Read | Call::Newest { .. } => {}
             Call::Lot { .. } | Call::Run { .. } | Call::Block { .. } | Call::Stop { .. } => self.entries.push(*frame),
         }
     }
@@ -119,6 +125,8 @@ fn check(caller: &mut Caller, store: &[u8], stream: u32, standing: &Standing, ta
     if other != alone {
         return Err(format!("replayed: {}", first_difference(&other, &alone)));
     }
+    tally.calls += same_parts(stream, standing.entries.len() as u32, store, &other)?;
+    tally.recordings += recordings(standing, &store[area.clone()])?;
     next_calls(caller, stream, store.to_vec(), other)?;
     if let Some(plan) = standing.plan() {
         backward(&plan, &standing.entries(), &store[area], tally)?;
@@ -140,6 +148,46 @@ fn replay(standing: &Standing) -> Result<Vec<u8>, String> {
         }
     }
     Ok(store)
+}
+
+/// "the bytes of any part handed back": the newest records, where so many stand, at the same place of both stores. Gives how many answers
+/// were compared.
+fn same_parts(stream: u32, standing: u32, store: &[u8], other: &[u8]) -> Result<usize, String> {
+    let counts = [0, 1, 2, standing.saturating_sub(1), standing, standing + 1, u32::MAX];
+    for count in counts {
+        let (long_lived, replayed) = (newest(store, stream, count), newest(other, stream, count));
+        if long_lived != replayed {
+            return Err(format!(
+                "the newest {count}: {long_lived:?} on the long-lived store, {replayed:?} on the replayed"
+            ));
+        }
+    }
+    Ok(counts.len())
+}
+
+/// Paper 02, card 1: "a recording is found exactly where a lot, run or block stands", and it is the one that the entry brought. Gives how
+/// many there are.
+fn recordings(standing: &Standing, area: &[u8]) -> Result<usize, String> {
+    let mut found = 0;
+    for k in 0..FULL {
+        let bytes = &area[record_at(k)];
+        let stored = [record::RECORDING.get(bytes) as u32, record::SECOND.get(bytes) as u32];
+        let brought = match standing.entries.get(k) {
+            Some(Frame {
+                call: LOT | RUN | BLOCK,
+                args: [.., number, second],
+                ..
+            }) => Some([*number, *second]),
+            _ => None,
+        };
+        if stored != brought.unwrap_or_default() || (stored[0] != 0) != brought.is_some() {
+            return Err(format!(
+                "record {k} has recording {stored:?}, and its entry brought {brought:?}"
+            ));
+        }
+        found += usize::from(brought.is_some());
+    }
+    Ok(found)
 }
 
 /// Whichever call on this stream follows gives the same on both stores, and leaves the same area.

@@ -3,13 +3,15 @@
 use crate::{said, Done, Setting};
 use outside::at;
 use outside::programs::{printed_by, FRAMES, ROOT};
-use reference::{frame, frames_output, line, plain_frame, Caller, Random, OPEN};
+use reference::{frame, frames_output, line, plain_frame, plain_frames, Caller, Random, ARGUMENTS, DIGITS, OPEN};
 use std::io::Write;
 use std::time::Duration;
 use std::{fs, io, thread};
 
 const TEXTS: u64 = 12;
 const LINES: usize = 10_000;
+/// So many digits were a frame before it had a recording.
+const FORMER_DIGITS: usize = 44;
 
 pub fn test(setting: &Setting) -> Result<Done, String> {
     stored_run()?;
@@ -60,7 +62,8 @@ fn stored_run() -> Result<(), String> {
     at(|| "the stored run".into(), compare(&input, &mut Random::new(0)))
 }
 
-/// Input without a line, with empty ones, without a line feed at its end, with frames one digit short and one too long.
+/// Input without a line, with empty ones, without a line feed at its end, with frames one digit short and one too long, of the former
+/// length, with a recording where a call has none.
 fn edges() -> Vec<Vec<u8>> {
     let good = line(&plain_frame(OPEN, 0)).into_bytes();
     let mut edges: Vec<Vec<u8>> = vec![
@@ -79,7 +82,31 @@ fn edges() -> Vec<Vec<u8>> {
     edges.push([b"0", &good[..], b"\n"].concat());
     edges.push([&good, &b"\n"[..], &vec![b'0'; 1 << 20], b"\n", &good].concat());
     edges.push(vec![b'\n'; 100_000]);
+    edges.push(plain_lines(|line| line.truncate(FORMER_DIGITS)));
+    // a number in the place of each argument, and another one in the next place
+    for place in 0..ARGUMENTS {
+        edges.push(plain_lines(|line| overwrite(line, number_at(place), "00000001")));
+        edges.push(plain_lines(|line| {
+            overwrite(line, number_at(place), "00000001");
+            overwrite(line, number_at((place + 1) % ARGUMENTS), "0000003c");
+        }));
+    }
     edges
+}
+
+/// Each of the calls on stream 0, its line changed so.
+fn plain_lines(change: impl Fn(&mut Vec<u8>)) -> Vec<u8> {
+    let lines = plain_frames(0).map(|frame| {
+        let mut line = line(&frame).into_bytes();
+        change(&mut line);
+        line
+    });
+    lines.join(&b'\n')
+}
+
+/// Where the digits of an argument start, by its place.
+fn number_at(place: usize) -> usize {
+    4 + 8 * place
 }
 
 /// So many lines, one in six of them damaged; with an odd seed the last has no line feed. The frames that are left are made on the
@@ -116,7 +143,7 @@ fn random_text(seed: u64, tally: &mut Tally) -> Vec<u8> {
 /// A line with something done to it; some stay frames, some become two lines.
 fn damaged(random: &mut Random, mut line: Vec<u8>) -> Vec<u8> {
     let place = random.below(line.len());
-    match random.below(16) {
+    match random.below(19) {
         0 => line[place] ^= 1 << random.below(8),
         1 => line[place] = random.byte(),
         2 => line.push(random.pick(b"0123456789abcdef \r")),
@@ -125,13 +152,17 @@ fn damaged(random: &mut Random, mut line: Vec<u8>) -> Vec<u8> {
         5 => line.make_ascii_uppercase(),
         6 => line.clear(),
         7 => overwrite(&mut line, 0, random.pick(&["00", "09", "0a", "0f", "10", "80", "ff"])),
-        8 => line[4 + random.below(40)] = random.pick(b"123456789abcdef"),
+        8 => line[4 + random.below(DIGITS - 4)] = random.pick(b"123456789abcdef"),
         9 => overwrite(&mut line, 2, random.pick(&["10", "11", "7f", "80", "ff"])),
         10 => line[place] = random.pick(b"ABCDEFgG/:`@ -+xX\0\xff\t\r"),
         11 => line.insert(place, random.pick(b"0 \n\r")),
-        12 => line = vec![b'0'; random.pick(&[1, 2, 43, 45, 60, 68, 88, 200, 3_000, 70_000])],
-        13 => line = vec![random.byte(); random.pick(&[44, 44, 44, 100, 1_000])],
+        12 => line = vec![b'0'; random.pick(&[1, 2, FORMER_DIGITS, DIGITS - 1, DIGITS + 1, 68, 88, 200, 3_000, 70_000])],
+        13 => line = vec![random.byte(); random.pick(&[DIGITS, DIGITS, DIGITS, 100, 1_000])],
         14 => _ = line.remove(place),
+        15 => line.truncate(FORMER_DIGITS),
+        // a recording where it belongs, which a stop does not have, and in a run's third and fourth place
+        16 => overwrite(&mut line, number_at(5), "000000070000003c"),
+        17 => overwrite(&mut line, number_at(2), "000000070000003c"),
         _ => return [line.clone(), line].concat(),
     }
     line
@@ -164,7 +195,7 @@ fn same_lines(ours: &[u8], theirs: &[u8]) -> Result<(), String> {
 /// A rest now and then, so that the program reads up to there and no further.
 fn write_in_pieces(stdin: &mut impl Write, mut rest: &[u8], random: &mut Random) -> io::Result<()> {
     while !rest.is_empty() {
-        let longest = random.pick(&[1, 3, 44, 45, 46, 500, 5_000, 70_000]);
+        let longest = random.pick(&[1, 3, DIGITS, DIGITS + 1, DIGITS + 2, 500, 5_000, 70_000]);
         let (piece, after) = rest.split_at((1 + random.below(longest)).min(rest.len()));
         stdin.write_all(piece)?;
         stdin.flush()?;

@@ -1,13 +1,15 @@
-//! What the tests and the benchmark share: a call of the library by its frame, where two sides differ, whether an implementation
-//! agrees with the reference, and what a program prints.
+//! What the tests and the benchmark share: a call of the library by its frame, the part that it hands back, where two sides differ,
+//! whether an implementation agrees with the reference, and what a program prints.
 
 pub mod agreement;
 pub mod programs;
 
-use reference::{Answer, Frame, AREA, ARGUMENTS, ASK, BACK, BLOCK, LOT, OPEN, READ, RUN, STOP, STORE, STREAMS};
+use reference::{
+    Answer, Frame, Part, AREA, ARGUMENTS, ASK, BACK, BLOCK, LOT, NEWEST, OPEN, READ, RECORD, RUN, STOP, STORE, STREAMS,
+};
 
-// The wrapper's sizes are paper 01's.
-const _: () = assert!(listening::STORE_LENGTH == STORE && listening::STREAMS == STREAMS);
+// The wrapper's sizes are the papers'.
+const _: () = assert!(listening::STORE_LENGTH == STORE && listening::STREAMS == STREAMS && listening::RECORD_LENGTH == RECORD);
 const _: () = assert!(listening::CALL_LENGTH == 2 + ARGUMENTS && listening::ANSWER_LENGTH == 4);
 
 /// Makes a call on a store.
@@ -16,19 +18,44 @@ pub type Make = fn(&mut [u8], &Frame) -> Answer;
 /// The library's call of this frame.
 pub fn make(store: &mut [u8], frame: &Frame) -> Answer {
     let stream = frame.stream;
-    let [a, b, c, d, e] = frame.args;
-    let answer = match frame.call {
+    let [a, b, c, d, e, recording, second] = frame.args;
+    numbers(match frame.call {
         OPEN => listening::open(store, stream, a, b, c, d),
-        LOT => listening::lot(store, stream, a, b, c, d, e),
-        RUN => listening::run(store, stream, a, b),
-        BLOCK => listening::block(store, stream, a, b),
+        LOT => listening::lot(store, stream, a, b, c, d, e, recording, second),
+        RUN => listening::run(store, stream, a, b, recording, second),
+        BLOCK => listening::block(store, stream, a, b, recording, second),
         STOP => listening::stop(store, stream, a, b),
         BACK => listening::back(store, stream),
         ASK => listening::ask(store, stream, a),
         READ => listening::read(store, stream),
+        NEWEST => listening::newest(store, stream, a).0,
         call => panic!("no call {call}"),
-    };
+    })
+}
+
+fn numbers(answer: listening::Answer) -> Answer {
     [answer.refusal, answer.first, answer.second, answer.third]
+}
+
+/// The library's newest records: the answer, and the part with its place in the store.
+pub fn newest(store: &[u8], stream: u32, count: u32) -> (Answer, Part) {
+    let (answer, records) = listening::newest(store, stream, count);
+    let part = Part {
+        at: records.as_ptr() as usize - store.as_ptr() as usize,
+        bytes: records.to_vec(),
+    };
+    (numbers(answer), part)
+}
+
+/// The library hands back this part, with as many records as its answer says.
+pub fn hands_back(store: &[u8], stream: u32, count: u32, expected: &Part) -> Result<(), String> {
+    let (answer, part) = newest(store, stream, count);
+    if part == *expected && part.bytes.len() == RECORD * answer[1] as usize {
+        return Ok(());
+    }
+    Err(format!(
+        "the newest {count} of stream {stream}: {answer:?}, part {part:?}, expected {expected:?}"
+    ))
 }
 
 /// The answers and all bytes are the same on the two sides, of which the first is the library.

@@ -1,9 +1,10 @@
-//! Long random lists of calls: after each, the answer and every byte of the store. No state may be left out: `reach` counts them.
+//! Long random lists of calls: after each, the answer, the part that call 9 hands back, and every byte of the store. No state may be left
+//! out: `reach` counts them.
 
 use crate::reach::Reach;
 use crate::{said, Done, Setting};
-use outside::{at, make, same};
-use reference::{Answer, Caller, Station, STORE};
+use outside::{at, hands_back, make, same};
+use reference::{newest_part, Answer, Caller, Station, NEWEST, STORE};
 
 const LISTS: u64 = 200;
 const CALLS: usize = 15_000;
@@ -20,7 +21,7 @@ pub fn test(setting: &Setting) -> Result<Done, String> {
     }
     reach.complete()?;
     let what = format!(
-        "{calls} calls in lists of {CALLS}, {}; the answer and all {STORE} bytes after each; {}",
+        "{calls} calls in lists of {CALLS}, {}; the answer, the part and all {STORE} bytes after each; {}",
         said(&seeds),
         if setting.reach { reach.table() } else { reach.summary() }
     );
@@ -40,6 +41,11 @@ fn one_list(seed: u64, reach: &mut Reach) -> Result<(), String> {
         caller.write_area(&mut expected[AROUND..AROUND + STORE], frame.stream);
         let ours = make(&mut memory[AROUND..AROUND + STORE], &frame);
         let place = || format!("seed {seed}, call {k}, {frame:?} on {}", described(&before));
+        if frame.call == NEWEST {
+            let [count, ..] = frame.args;
+            let part = newest_part(before.as_ref(), frame.stream, count);
+            at(place, hands_back(&memory[AROUND..AROUND + STORE], frame.stream, count, &part))?;
+        }
         at(place, compare(ours, theirs, &memory, &expected))?;
         if let (Some(before), Some(after)) = (&before, caller.station(frame.stream)) {
             reach.see(&frame, &theirs, before, after);

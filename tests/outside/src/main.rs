@@ -12,6 +12,7 @@ mod demand_three;
 mod forged_areas;
 mod frames_program;
 mod lists;
+mod newest;
 mod reach;
 mod store_lengths;
 mod whole_lists;
@@ -50,11 +51,12 @@ pub struct Done {
 
 type Test = fn(&Setting) -> Result<Done, String>;
 
-const TESTS: [(&str, Test); 8] = [
+const TESTS: [(&str, Test); 9] = [
     ("store lengths", store_lengths::test),
     ("lists", lists::test),
     ("whole lists", whole_lists::test),
     ("demand 3", demand_three::test),
+    ("newest records", newest::test),
     ("damaged bytes", damage::every_byte),
     ("damaged areas", damage::whole_areas),
     ("forged areas", forged_areas::test),

@@ -1,23 +1,25 @@
 //! What random calls reached: every refusal that a call can give, every verdict, move and restoration. A test that no longer
 //! reaches one of them has gone blind, and fails.
 
-use reference::{call_of, figures, Answer, Call, Entry, Figures, Frame, Plan, Station, CONTINUOUS, CREDIT, FULL, LEVEL};
+use reference::{call_of, figures, Answer, Call, Entry, Figures, Frame, Plan, Recording, Station, CONTINUOUS, CREDIT, FULL, LEVEL};
 use std::collections::BTreeMap;
 
-/// Paper 01, Calls: what each call can be refused for on a store of the right length whose areas are sound; 0 is acceptance.
-const REFUSALS: [(u32, &[u32]); 8] = [
+/// Paper 01, Calls, and paper 02, card 1: what each call can be refused for on a store of the right length whose areas are sound; 0 is
+/// acceptance.
+const REFUSALS: [(u32, &[u32]); 9] = [
     (1, &[0, 2, 4, 5]),
-    (2, &[0, 2, 6, 7, 8, 9, 10, 11, 12, 13]),
-    (3, &[0, 2, 6, 7, 9, 14, 15]),
-    (4, &[0, 2, 6, 7, 9, 14, 15]),
+    (2, &[0, 2, 6, 7, 8, 9, 10, 11, 12, 13, 17]),
+    (3, &[0, 2, 6, 7, 9, 14, 15, 17]),
+    (4, &[0, 2, 6, 7, 9, 14, 15, 17]),
     (5, &[0, 2, 6, 8, 9, 15]),
     (6, &[0, 2, 6, 16]),
     (7, &[0, 2, 6, 7, 8, 11]),
     (8, &[0, 2, 6]),
+    (9, &[0, 2, 6]),
 ];
 
 /// What an accepted call, or a refusal that depends on more than one state, can meet.
-const STATES: [&str; 58] = [
+const STATES: [&str; 82] = [
     "credit: accepted",
     "credit: all heard, no credit before",
     "credit: all heard by option 1, credit lost",
@@ -76,6 +78,30 @@ const STATES: [&str; 58] = [
     "read: discontinued",
     "read: screening, c above 0",
     "read: sampling, u above 0",
+    "recording 0: lot refused by 13",
+    "recording 0: run refused by 14",
+    "recording 0: block refused by 14",
+    "recording 0: second above 0, refused by 17",
+    "recording: lot from second 0",
+    "recording: run from second 0",
+    "recording: block from second 0",
+    "recording: lot with the largest number",
+    "recording: run with the largest number",
+    "recording: block with the largest number",
+    "recording: the largest second",
+    "newest: cut by the count, credit",
+    "newest: cut by the count, level",
+    "newest: cut by the count, continuous",
+    "newest: cut by the count, full",
+    "newest: cut by the count, a stop in the part",
+    "newest: as many as stand",
+    "newest: fewer stand than the count",
+    "newest: the largest count",
+    "newest: count 0",
+    "newest: none stands",
+    "newest: all 128",
+    "newest: discontinued",
+    "newest: sampling",
 ];
 
 pub struct Reach {
@@ -177,6 +203,9 @@ impl Seen<'_> {
     fn states(&self, call: &Call, answer: &Answer) -> Vec<&'static str> {
         let accepted = answer[0] == 0;
         let mut states = Vec::new();
+        if let Call::Lot { recording, .. } | Call::Run { recording, .. } | Call::Block { recording, .. } = call {
+            states.extend(recorded(call, recording, answer[0]));
+        }
         match call {
             Call::Lot { label, .. } if accepted => {
                 states.extend(self.lot(answer[1]));
@@ -193,6 +222,7 @@ impl Seen<'_> {
             }
             Call::Back if accepted => states.extend(self.back(answer[1])),
             Call::Read => states.extend(self.read()),
+            Call::Newest { count } => states.extend(self.newest(*count as usize)),
             _ => {}
         }
         if self.left == FULL && self.entries.len() < FULL {
@@ -320,4 +350,63 @@ impl Seen<'_> {
             _ => None,
         }
     }
+
+    fn newest(&self, count: usize) -> Vec<&'static str> {
+        let stand = self.entries.len();
+        let cut = count > 0 && count < stand;
+        let stop_in_part = || {
+            let part = &self.entries[stand - count..];
+            part.iter().any(|entry| matches!(entry, Entry::Stop { .. }))
+        };
+        let met = [
+            (cut && self.plan.kind == CREDIT, "newest: cut by the count, credit"),
+            (cut && self.plan.kind == LEVEL, "newest: cut by the count, level"),
+            (cut && self.plan.kind == CONTINUOUS, "newest: cut by the count, continuous"),
+            (cut && stand == FULL, "newest: cut by the count, full"),
+            (cut && stop_in_part(), "newest: cut by the count, a stop in the part"),
+            (count > 0 && count == stand, "newest: as many as stand"),
+            (count > stand && stand > 0, "newest: fewer stand than the count"),
+            (count == u32::MAX as usize && stand > 0, "newest: the largest count"),
+            (count == 0 && stand > 0, "newest: count 0"),
+            (count > 0 && stand == 0, "newest: none stands"),
+            (count >= FULL && stand == FULL, "newest: all 128"),
+            (self.was.level == 3, "newest: discontinued"),
+            (self.was.phase == 1, "newest: sampling"),
+        ];
+        met.into_iter().filter(|(is, _)| *is).map(|(_, state)| state).collect()
+    }
+}
+
+/// What the recording of a lot, run or block was, by its refusal: 17 is the last of each list.
+fn recorded(call: &Call, recording: &Recording, refusal: u32) -> Vec<&'static str> {
+    let of = |[lot, run, block]: [&'static str; 3]| match call {
+        Call::Lot { .. } => lot,
+        Call::Run { .. } => run,
+        _ => block,
+    };
+    let Recording { number, second } = *recording;
+    let mut states = Vec::new();
+    match refusal {
+        13 | 14 if number == 0 => states.push(of([
+            "recording 0: lot refused by 13",
+            "recording 0: run refused by 14",
+            "recording 0: block refused by 14",
+        ])),
+        17 if second > 0 => states.push("recording 0: second above 0, refused by 17"),
+        0 if second == 0 => states.push(of([
+            "recording: lot from second 0",
+            "recording: run from second 0",
+            "recording: block from second 0",
+        ])),
+        0 if second == u32::MAX => states.push("recording: the largest second"),
+        _ => {}
+    }
+    if refusal == 0 && number == u32::MAX {
+        states.push(of([
+            "recording: lot with the largest number",
+            "recording: run with the largest number",
+            "recording: block with the largest number",
+        ]));
+    }
+    states
 }

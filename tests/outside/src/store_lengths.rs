@@ -1,10 +1,13 @@
-//! Stores of another length than 41,728: refusal 1 from every call, on any stream, whatever the bytes, which stay.
+//! Stores of another length than 58,112: refusal 1 from every call, on any stream, whatever the bytes, which stay; and no part of them is
+//! handed back.
 
 use crate::{Done, Setting};
-use outside::{at, make, same};
-use reference::{plain_frames, Caller, Random, AREA, RECORDS_FROM, STORE};
+use outside::{at, hands_back, make, same};
+use reference::{plain_frames, Caller, Part, Random, AREA, RECORDS_FROM, STORE};
 
-const LENGTHS: [usize; 16] = [
+/// The length of a store before entries had a recording.
+const FORMER_STORE: usize = 41_728;
+const LENGTHS: [usize; 19] = [
     0,
     1,
     2,
@@ -13,6 +16,9 @@ const LENGTHS: [usize; 16] = [
     AREA,
     AREA + 1,
     STORE / 2,
+    FORMER_STORE - 1,
+    FORMER_STORE,
+    FORMER_STORE + 1,
     STORE - AREA,
     STORE - 2,
     STORE - 1,
@@ -38,8 +44,9 @@ pub fn test(setting: &Setting) -> Result<Done, String> {
         for (content, bytes) in contents {
             for stream in STREAMS {
                 let place = || format!("a store of {length} bytes, {content}, stream {stream}");
-                at(place, eight_calls(&bytes, stream))?;
+                at(place, each_call(&bytes, stream))?;
                 at(place, whole_list(&bytes, stream))?;
+                at(place, hands_back(&bytes, stream, u32::MAX, &Part::default()))?;
                 calls += plain_frames(stream).len();
             }
         }
@@ -59,7 +66,7 @@ pub fn test(setting: &Setting) -> Result<Done, String> {
     Ok(Done { calls: 2 * calls, what })
 }
 
-fn eight_calls(bytes: &[u8], stream: u32) -> Result<(), String> {
+fn each_call(bytes: &[u8], stream: u32) -> Result<(), String> {
     for frame in plain_frames(stream) {
         let mut store = bytes.to_vec();
         let ours = make(&mut store, &frame);

@@ -3,10 +3,23 @@
 
 use crate::{said, Done, Setting};
 use outside::{at, first_difference};
-use reference::{Answer, Caller, Random, ARGUMENTS, LOT, READ, STORE};
+use reference::{Answer, Caller, Random, LOT, NEWEST, OPEN, READ, STORE};
 
 const STORES: u64 = 40;
 const LISTS: usize = 400;
+
+/// The places of the arguments that a call does not have, from Open on. A recording has the last two places; a stop has none.
+const UNUSED: [&[usize]; NEWEST as usize] = [
+    &[4, 5, 6],
+    &[],
+    &[2, 3, 4],
+    &[2, 3, 4],
+    &[2, 3, 4, 5, 6],
+    &[0, 1, 2, 3, 4, 5, 6],
+    &[1, 2, 3, 4, 5, 6],
+    &[0, 1, 2, 3, 4, 5, 6],
+    &[1, 2, 3, 4, 5, 6],
+];
 
 pub fn test(setting: &Setting) -> Result<Done, String> {
     let seeds = setting.seeds(STORES);
@@ -27,8 +40,8 @@ pub fn test(setting: &Setting) -> Result<Done, String> {
     let lists = LISTS * (seeds.end - seeds.start) as usize;
     let [number, unused, length, room] = tally.malformed;
     let what = format!(
-        "{lists} lists of {} calls, and before each a malformed one, {}: {number} with a call number outside 1 to 8, {unused} with \
-         an unused argument, {length} of a wrong length, {room} with a wrong room for answers",
+        "{lists} lists of {} calls, and before each a malformed one, {}: {number} with a call number outside 1 to {NEWEST}, {unused} \
+         with an unused argument, {length} of a wrong length, {room} with a wrong room for answers",
         tally.calls,
         said(&seeds)
     );
@@ -127,15 +140,14 @@ fn room(random: &mut Random, length: usize) -> Vec<u32> {
     (0..length).map(|_| random.number() as u32).collect()
 }
 
-/// One call's number goes outside 1 to 8, also to one that would be inside if it were cut to a byte.
+/// One call's number goes outside 1 to 9, also to one that would be inside if it were cut to a byte.
 fn spoil_number(random: &mut Random, calls: &mut [u32]) {
     let at = random.below(calls.len() / listening::CALL_LENGTH) * listening::CALL_LENGTH;
-    calls[at] = random.pick(&[0, 9, 10, 15, 255, 256, calls[at] + 256, calls[at] + 65_536, u32::MAX]);
+    calls[at] = random.pick(&[0, 10, 11, 15, 255, 256, calls[at] + 256, calls[at] + 65_536, u32::MAX]);
 }
 
 /// One call gets an argument that it does not have.
 fn spoil_unused(random: &mut Random, calls: &mut [u32]) {
-    let used = [4, 5, 2, 2, 2, 0, 1, 0];
     let count = calls.len() / listening::CALL_LENGTH;
     let call = &mut calls
         .chunks_mut(listening::CALL_LENGTH)
@@ -145,8 +157,8 @@ fn spoil_unused(random: &mut Random, calls: &mut [u32]) {
         // a lot uses them all
         call[0] = READ;
     }
-    let first = used[call[0] as usize - 1];
-    call[2 + random.range(first, ARGUMENTS as u32 - 1) as usize] = random.pick(&[1, 2, 256, 65_536, 1 << 31, u32::MAX]);
+    let place = random.pick(UNUSED[(call[0] - OPEN) as usize]);
+    call[2 + place] = random.pick(&[1, 2, 256, 65_536, 1 << 31, u32::MAX]);
 }
 
 /// Some numbers too few or too many; gives the room that whole calls would have.

@@ -1,15 +1,15 @@
 //! The store's bytes. An area is written from a station anew, and read by replaying its records.
 
-use crate::calls::{answer, call_of, record_kind, Answer, Call, Frame};
-use crate::station::{figures, Entry, Plan, Station, FULL};
+use crate::calls::{answer, call_of, newest, record_kind, Answer, Call, Frame};
+use crate::station::{figures, Entry, Plan, Recording, Station, FULL};
 use std::ops::Range;
 
 pub const STREAMS: u32 = 16;
-pub const AREA: usize = 2_608;
-pub const STORE: usize = 41_728;
+pub const AREA: usize = 3_632;
+pub const STORE: usize = 58_112;
 /// Where an area's records start, and the length of one.
 pub const RECORDS_FROM: usize = 48;
-pub const RECORD: usize = 20;
+pub const RECORD: usize = 28;
 
 /// Where a little-endian number starts in an area or a record, and its length in bytes.
 #[derive(Clone, Copy)]
@@ -42,13 +42,15 @@ pub mod header {
     pub const ACCEPTED: Place = place(32, 8);
 }
 
-/// The same of a record: kind, flag, two zero bytes, four numbers.
+/// The same of a record: kind, flag, two zero bytes, four numbers, and the number and start second of the recording.
 pub mod record {
     use super::{place, Place};
 
     pub const KIND: Place = place(0, 1);
     pub const FLAG: Place = place(1, 1);
     pub const NUMBERS: [Place; 4] = [place(4, 4), place(8, 4), place(12, 4), place(16, 4)];
+    pub const RECORDING: Place = place(20, 4);
+    pub const SECOND: Place = place(24, 4);
 }
 
 impl Place {
@@ -115,15 +117,20 @@ fn put_header(bytes: &mut [u8], plan: &Plan, station: &Station) {
 
 fn put_record(bytes: &mut [u8], entry: &Entry) {
     let (flag, numbers) = match *entry {
-        Entry::Lot { label, size, d, all } => (0, [label, size, d, all]),
-        Entry::Run { h, w } => (w, [h, 0, 0, 0]),
-        Entry::Block { p, w } => (w, [p, 0, 0, 0]),
+        Entry::Lot { label, size, d, all, .. } => (0, [label, size, d, all]),
+        Entry::Run { h, w, .. } => (w, [h, 0, 0, 0]),
+        Entry::Block { p, w, .. } => (w, [p, 0, 0, 0]),
         Entry::Stop { why, days } => (why, [days, 0, 0, 0]),
     };
     record::KIND.put(bytes, record_kind(entry).into());
     record::FLAG.put(bytes, flag.into());
     for (place, number) in record::NUMBERS.into_iter().zip(numbers) {
         place.put(bytes, number.into());
+    }
+    // "Stops carry two zeros."
+    if let Entry::Lot { recording, .. } | Entry::Run { recording, .. } | Entry::Block { recording, .. } = *entry {
+        record::RECORDING.put(bytes, recording.number.into());
+        record::SECOND.put(bytes, recording.second.into());
     }
 }
 
@@ -157,6 +164,10 @@ pub fn read_area(bytes: &[u8]) -> Option<Station> {
 fn record_call(station: &mut Station, bytes: &[u8]) -> Option<Call> {
     let flag = record::FLAG.get(bytes) as u32;
     let [first, second, third, fourth] = record::NUMBERS.map(|place| place.get(bytes) as u32);
+    let recording = Recording {
+        number: record::RECORDING.get(bytes) as u32,
+        second: record::SECOND.get(bytes) as u32,
+    };
     match record::KIND.get(bytes) {
         1 => {
             // n is in no record: the only one that could have been accepted is the one asked
@@ -169,10 +180,19 @@ fn record_call(station: &mut Station, bytes: &[u8]) -> Option<Call> {
                 n,
                 d: third,
                 all: fourth,
+                recording,
             })
         }
-        2 => Some(Call::Run { h: first, w: flag }),
-        3 => Some(Call::Block { p: first, w: flag }),
+        2 => Some(Call::Run {
+            h: first,
+            w: flag,
+            recording,
+        }),
+        3 => Some(Call::Block {
+            p: first,
+            w: flag,
+            recording,
+        }),
         4 => Some(Call::Stop { why: flag, days: first }),
         _ => None,
     }
@@ -180,19 +200,54 @@ fn record_call(station: &mut Station, bytes: &[u8]) -> Option<Call> {
 
 /// A call on a store of bytes, whatever they are.
 pub fn call_on_store(store: &mut [u8], frame: &Frame) -> Answer {
-    if store.len() != STORE {
-        return [1, 0, 0, 0];
-    }
-    if frame.stream >= STREAMS {
-        return [2, 0, 0, 0];
-    }
-    let area = &mut store[area_at(frame.stream)];
-    let Some(mut station) = read_area(area) else {
-        return [3, 0, 0, 0];
+    let mut station = match station_on_store(store, frame.stream) {
+        Ok(station) => station,
+        Err(refusal) => return [refusal, 0, 0, 0],
     };
     let given = answer(&mut station, call_of(frame).expect("a call"));
     if given[0] == 0 {
-        area.copy_from_slice(&area_bytes(&station));
+        store[area_at(frame.stream)].copy_from_slice(&area_bytes(&station));
     }
     given
+}
+
+fn station_on_store(store: &[u8], stream: u32) -> Result<Station, u32> {
+    if store.len() != STORE {
+        return Err(1);
+    }
+    if stream >= STREAMS {
+        return Err(2);
+    }
+    read_area(&store[area_at(stream)]).ok_or(3)
+}
+
+/// The part of the store that call 9 hands back: from which byte of the store on, and its bytes.
+#[derive(Clone, Debug, Default, PartialEq, Eq)]
+pub struct Part {
+    pub at: usize,
+    pub bytes: Vec<u8>,
+}
+
+/// The newest so many standing records of a stream, oldest of them first, written anew from its entries. The part ends behind the last
+/// standing record, also where no record comes back. "A refusal hands back an empty part", also where there is no station, since the
+/// store, the stream or the area is refused; its place is then 0, as in the C header.
+pub fn newest_part(station: Option<&Station>, stream: u32, count: u32) -> Part {
+    let Some(Station { plan: Some(_), entries }) = station else {
+        return Part::default();
+    };
+    let end = area_at(stream).start + record_at(entries.len()).start;
+    let newest = newest(entries, count);
+    let mut bytes = vec![0; RECORD * newest.len()];
+    for (record, entry) in bytes.chunks_mut(RECORD).zip(newest) {
+        put_record(record, entry);
+    }
+    Part {
+        at: end - bytes.len(),
+        bytes,
+    }
+}
+
+/// The same on a store of bytes, whatever they are.
+pub fn newest_part_on_store(store: &[u8], stream: u32, count: u32) -> Part {
+    newest_part(station_on_store(store, stream).ok().as_ref(), stream, count)
 }

@@ -1,9 +1,9 @@
 //! Random arguments for each call: good ones for the stream as it stands, and, so often as the caller's mood has it, bad ones of
 //! every sort.
 
-use crate::calls::{newest_label, Frame, ARGUMENTS, ASK, BLOCK, LOT, OPEN, RUN, STOP};
+use crate::calls::{newest_label, Frame, ARGUMENTS, ASK, BLOCK, LOT, NEWEST, OPEN, RUN, STOP};
 use crate::random::Random;
-use crate::station::{sample, verdict, Figures, Plan, Station, CONTINUOUS, CREDIT, LEVEL};
+use crate::station::{sample, verdict, Figures, Plan, Station, CONTINUOUS, CREDIT, FULL, LEVEL};
 use std::array;
 
 pub type Args = [u32; ARGUMENTS];
@@ -34,19 +34,55 @@ impl Mood {
 /// A call with arguments that are good on some stream.
 pub fn plain_frame(call: u32, stream: u32) -> Frame {
     let args = match call {
-        OPEN => [CREDIT, 0, 15_000, 0, 0],
-        LOT => [1, 201, 51, 0, 0],
-        RUN | BLOCK => [1, 0, 0, 0, 0],
-        STOP => [1, 4, 0, 0, 0],
-        ASK => [201, 0, 0, 0, 0],
+        OPEN => [CREDIT, 0, 15_000, 0, 0, 0, 0],
+        LOT => [1, 201, 51, 0, 0, 1, 0],
+        RUN | BLOCK => [1, 0, 0, 0, 0, 1, 0],
+        STOP => [1, 4, 0, 0, 0, 0, 0],
+        ASK => [201, 0, 0, 0, 0, 0, 0],
+        NEWEST => [2, 0, 0, 0, 0, 0, 0],
         _ => [0; ARGUMENTS],
     };
     Frame { call, stream, args }
 }
 
-/// The eight calls, in the order of their numbers.
-pub fn plain_frames(stream: u32) -> [Frame; 8] {
+/// The nine calls, in the order of their numbers.
+pub fn plain_frames(stream: u32) -> [Frame; NEWEST as usize] {
     array::from_fn(|k| plain_frame(OPEN + k as u32, stream))
+}
+
+/// The arguments of a call with a recording, which are the last two.
+fn with_recording([a, b, c, d, e]: [u32; 5], [number, second]: [u32; 2]) -> Args {
+    [a, b, c, d, e, number, second]
+}
+
+/// A recording number and a start second. The number is 0, which is refused by 17, half as often as the caller errs elsewhere, whatever
+/// else is wrong with the call; the second is free.
+fn recording(random: &mut Random, mood: &Mood) -> [u32; 2] {
+    let number = match random.below(4) {
+        _ if random.chance(mood.err, 2000) => 0,
+        0 => random.pick(&[1, 1, 2, 255, 256, 65_536, 1 << 24, u32::MAX]),
+        1 => random.range(1, 300),
+        _ => (random.number() as u32).max(1),
+    };
+    let second = match random.below(4) {
+        0 => random.pick(&[0, 0, 1, 255, 256, u32::MAX]),
+        1 => random.range(0, 86_400),
+        2 => random.odd(),
+        _ => random.number() as u32,
+    };
+    [number, second]
+}
+
+/// How many of the newest records are asked for where so many stand.
+pub fn newest_args(random: &mut Random, standing: usize) -> Args {
+    let standing = standing as u32;
+    let count = match random.below(4) {
+        0 => random.pick(&[0, 1, 2, u32::MAX]),
+        1 => standing.saturating_sub(1) + random.range(0, 2),
+        2 => random.range(0, FULL as u32 + 1),
+        _ => random.odd(),
+    };
+    [count, 0, 0, 0, 0, 0, 0]
 }
 
 pub fn any_plan_args(random: &mut Random) -> Args {
@@ -56,9 +92,9 @@ pub fn any_plan_args(random: &mut Random) -> Args {
 
 pub fn plan_args(random: &mut Random, kind: u32) -> Args {
     match kind {
-        CREDIT => [CREDIT, random.range(0, 1), limit(random), 0, 0],
-        LEVEL => [LEVEL, u32::from(random.chance(3, 5)), random.range(1, 7), 0, 0],
-        _ => [CONTINUOUS, 0, clearance(random), interval(random), 0],
+        CREDIT => [CREDIT, random.range(0, 1), limit(random), 0, 0, 0, 0],
+        LEVEL => [LEVEL, u32::from(random.chance(3, 5)), random.range(1, 7), 0, 0, 0, 0],
+        _ => [CONTINUOUS, 0, clearance(random), interval(random), 0, 0, 0],
     }
 }
 
@@ -111,7 +147,7 @@ pub fn bad_plan_args(random: &mut Random) -> Args {
 }
 
 /// Lot sizes in range, the ends of the tables' rows more often (paper 01's and document 000's).
-pub fn lot_size(random: &mut Random, small: bool) -> u32 {
+fn lot_size(random: &mut Random, small: bool) -> u32 {
     let ends = [
         1, 2, 3, 5, 12, 32, 170, 288, 544, 960, 1_632, 1_700, 3_072, 5_440, 5_482, 9_216, 9_720, 17_408, 30_720, 30_960, 9_900,
         8_192, 999_999, 1_000_000,
@@ -189,7 +225,13 @@ pub fn lot_args(random: &mut Random, plan: &Plan, station: &Station, now: &Figur
     };
     let d = lot_wrong(random, asked, n, mood, &faults);
     let all = lot_all(random, verdict(plan, now, d), [size, n, d], &faults);
-    [label, size, n, d, all]
+    with_recording([label, size, n, d, all], recording(random, mood))
+}
+
+/// A lot that hardly is one for its stream: its sample is not the one asked, as a rule.
+pub fn stray_lot_args(random: &mut Random, mood: &Mood) -> Args {
+    let lot = [random.odd(), lot_size(random, false), random.range(1, 100), 0, 0];
+    with_recording(lot, recording(random, mood))
 }
 
 fn lot_label(random: &mut Random, newest: Option<u32>, again: bool) -> u32 {
@@ -268,20 +310,32 @@ fn lot_all(random: &mut Random, verdict: u32, [size, n, d]: [u32; 3], faults: &[
 /// A run with so many detections left to the clearance number.
 pub fn run_args(random: &mut Random, left: u32, mood: &Mood) -> Args {
     let w = u32::from(random.chance(mood.wrong, 1000));
-    if random.chance(mood.err, 1000) {
-        return bad_run_args(random, left, w);
-    }
+    let [h, w] = if random.chance(mood.err, 1000) {
+        bad_run(random, left, w)
+    } else {
+        good_run(random, left, w)
+    };
+    with_recording([h, w, 0, 0, 0], recording(random, mood))
+}
+
+/// A short run, whatever the stream.
+pub fn stray_run_args(random: &mut Random, mood: &Mood) -> Args {
+    let run = [random.range(0, 9), random.range(0, 1), 0, 0, 0];
+    with_recording(run, recording(random, mood))
+}
+
+fn good_run(random: &mut Random, left: u32, w: u32) -> [u32; 2] {
     let h = match random.below(5) {
         0 | 1 => left,
         2 => left - 1,
         3 => random.range(0, left),
         _ => random.range(0, left.min(5)),
     };
-    [h.min(left - w).max(1 - w), w, 0, 0, 0]
+    [h.min(left - w).max(1 - w), w]
 }
 
-fn bad_run_args(random: &mut Random, left: u32, w: u32) -> Args {
-    let [h, w] = match random.below(8) {
+fn bad_run(random: &mut Random, left: u32, w: u32) -> [u32; 2] {
+    match random.below(8) {
         0 => [left + 1, w],
         1 => [left, 1],
         2 => [10_001, w],
@@ -290,8 +344,7 @@ fn bad_run_args(random: &mut Random, left: u32, w: u32) -> Args {
         5 => [left, random.pick(&[2, 256, 257, u32::MAX])],
         6 => [random.odd(), w],
         _ => [random.odd(), random.odd()],
-    };
-    [h, w, 0, 0, 0]
+    }
 }
 
 pub fn block_args(random: &mut Random, interval: u32, mood: &Mood) -> Args {
@@ -310,7 +363,7 @@ pub fn block_args(random: &mut Random, interval: u32, mood: &Mood) -> Args {
             _ => (p, w) = (random.odd(), random.odd()),
         }
     }
-    [p, w, 0, 0, 0]
+    with_recording([p, w, 0, 0, 0], recording(random, mood))
 }
 
 pub fn stop_args(random: &mut Random, mood: &Mood) -> Args {
@@ -329,5 +382,5 @@ pub fn stop_args(random: &mut Random, mood: &Mood) -> Args {
             _ => days = random.odd(),
         }
     }
-    [why, days, 0, 0, 0]
+    [why, days, 0, 0, 0, 0, 0]
 }

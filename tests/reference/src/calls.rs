@@ -1,6 +1,6 @@
-//! The eight calls on one stream whose area is sound.
+//! The nine calls on one stream whose area is sound.
 
-use crate::station::{enter, figures, sample, verdict, Entry, Figures, Plan, Station, CONTINUOUS, CREDIT, FULL, LEVEL};
+use crate::station::{enter, figures, sample, verdict, Entry, Figures, Plan, Recording, Station, CONTINUOUS, CREDIT, FULL, LEVEL};
 
 /// The refusal number, then the three numbers.
 pub type Answer = [u32; 4];
@@ -14,9 +14,10 @@ pub const STOP: u32 = 5;
 pub const BACK: u32 = 6;
 pub const ASK: u32 = 7;
 pub const READ: u32 = 8;
+pub const NEWEST: u32 = 9;
 
 /// A call has so many places for arguments.
-pub const ARGUMENTS: usize = 5;
+pub const ARGUMENTS: usize = 7;
 
 /// A call as a frame or a list holds it: its number, its stream, its arguments, unused ones 0.
 #[derive(Clone, Copy, Debug, PartialEq, Eq)]
@@ -29,8 +30,8 @@ pub struct Frame {
 impl Frame {
     /// As a list holds it.
     pub fn numbers(&self) -> [u32; 2 + ARGUMENTS] {
-        let [a, b, c, d, e] = self.args;
-        [self.call, self.stream, a, b, c, d, e]
+        let [a, b, c, d, e, f, g] = self.args;
+        [self.call, self.stream, a, b, c, d, e, f, g]
     }
 }
 
@@ -43,14 +44,17 @@ pub enum Call {
         n: u32,
         d: u32,
         all: u32,
+        recording: Recording,
     },
     Run {
         h: u32,
         w: u32,
+        recording: Recording,
     },
     Block {
         p: u32,
         w: u32,
+        recording: Recording,
     },
     Stop {
         why: u32,
@@ -61,19 +65,33 @@ pub enum Call {
         size: u32,
     },
     Read,
+    Newest {
+        count: u32,
+    },
 }
 
-/// The call of a frame; none where its number is outside 1 to 8 or an unused argument is not 0.
+/// The call of a frame; none where its number is outside 1 to 9 or an unused argument is not 0. A recording is the sixth argument
+/// and the seventh, whatever comes before it.
 pub fn call_of(frame: &Frame) -> Option<Call> {
+    let [.., number, second] = frame.args;
+    let recording = Recording { number, second };
     match (frame.call, frame.args) {
-        (OPEN, [kind, option, a, b, 0]) => Some(Call::Open(Plan { kind, option, a, b })),
-        (LOT, [label, size, n, d, all]) => Some(Call::Lot { label, size, n, d, all }),
-        (RUN, [h, w, 0, 0, 0]) => Some(Call::Run { h, w }),
-        (BLOCK, [p, w, 0, 0, 0]) => Some(Call::Block { p, w }),
-        (STOP, [why, days, 0, 0, 0]) => Some(Call::Stop { why, days }),
-        (BACK, [0, 0, 0, 0, 0]) => Some(Call::Back),
-        (ASK, [size, 0, 0, 0, 0]) => Some(Call::Ask { size }),
-        (READ, [0, 0, 0, 0, 0]) => Some(Call::Read),
+        (OPEN, [kind, option, a, b, 0, 0, 0]) => Some(Call::Open(Plan { kind, option, a, b })),
+        (LOT, [label, size, n, d, all, _, _]) => Some(Call::Lot {
+            label,
+            size,
+            n,
+            d,
+            all,
+            recording,
+        }),
+        (RUN, [h, w, 0, 0, 0, _, _]) => Some(Call::Run { h, w, recording }),
+        (BLOCK, [p, w, 0, 0, 0, _, _]) => Some(Call::Block { p, w, recording }),
+        (STOP, [why, days, 0, 0, 0, 0, 0]) => Some(Call::Stop { why, days }),
+        (BACK, [0, 0, 0, 0, 0, 0, 0]) => Some(Call::Back),
+        (ASK, [size, 0, 0, 0, 0, 0, 0]) => Some(Call::Ask { size }),
+        (READ, [0, 0, 0, 0, 0, 0, 0]) => Some(Call::Read),
+        (NEWEST, [count, 0, 0, 0, 0, 0, 0]) => Some(Call::Newest { count }),
         _ => None,
     }
 }
@@ -81,11 +99,24 @@ pub fn call_of(frame: &Frame) -> Option<Call> {
 /// What the call enters where it is accepted; none for those that enter nothing.
 pub fn entry_of(call: &Call) -> Option<Entry> {
     match *call {
-        Call::Lot { label, size, d, all, .. } => Some(Entry::Lot { label, size, d, all }),
-        Call::Run { h, w } => Some(Entry::Run { h, w }),
-        Call::Block { p, w } => Some(Entry::Block { p, w }),
+        Call::Lot {
+            label,
+            size,
+            d,
+            all,
+            recording,
+            ..
+        } => Some(Entry::Lot {
+            label,
+            size,
+            d,
+            all,
+            recording,
+        }),
+        Call::Run { h, w, recording } => Some(Entry::Run { h, w, recording }),
+        Call::Block { p, w, recording } => Some(Entry::Block { p, w, recording }),
         Call::Stop { why, days } => Some(Entry::Stop { why, days }),
-        Call::Open(_) | Call::Back | Call::Ask { .. } | Call::Read => None,
+        Call::Open(_) | Call::Back | Call::Ask { .. } | Call::Read | Call::Newest { .. } => None,
     }
 }
 
@@ -131,17 +162,26 @@ fn on_open_stream(station: &mut Station, plan: &Plan, call: Call) -> Outcome {
     match call {
         Call::Open(_) => unreachable!("answered before"),
         Call::Lot { .. } => lot(station, plan, &before, call),
-        Call::Run { h, w } => run(station, plan, &before, h, w),
-        Call::Block { p, w } => block(station, plan, &before, p, w),
+        Call::Run { h, w, recording } => run(station, plan, &before, [h, w], recording),
+        Call::Block { p, w, recording } => block(station, plan, &before, [p, w], recording),
         Call::Stop { why, days } => stop(station, plan, &before, why, days),
         Call::Back => back(station),
         Call::Ask { size } => ask(plan, &before, size),
         Call::Read => Ok(read(station, plan, &before)),
+        Call::Newest { count } => Ok([newest(&station.entries, count).len() as u32, 0, 0]),
     }
 }
 
 fn lot(station: &mut Station, plan: &Plan, before: &Figures, call: Call) -> Outcome {
-    let Call::Lot { label, size, n, d, all } = call else {
+    let Call::Lot {
+        label,
+        size,
+        n,
+        d,
+        all,
+        recording,
+    } = call
+    else {
         unreachable!("a lot")
     };
     refuse(7, plan.kind == CONTINUOUS)?;
@@ -159,8 +199,15 @@ fn lot(station: &mut Station, plan: &Plan, before: &Figures, call: Call) -> Outc
             _ => all != d,
         },
     )?;
+    refuse(17, recording.number == 0)?;
     let mut after = *before;
-    let entry = Entry::Lot { label, size, d, all };
+    let entry = Entry::Lot {
+        label,
+        size,
+        d,
+        all,
+        recording,
+    };
     let given = enter(plan, &mut after, &entry);
     station.entries.push(entry);
     Ok([
@@ -170,25 +217,27 @@ fn lot(station: &mut Station, plan: &Plan, before: &Figures, call: Call) -> Outc
     ])
 }
 
-fn run(station: &mut Station, plan: &Plan, before: &Figures, h: u32, w: u32) -> Outcome {
+fn run(station: &mut Station, plan: &Plan, before: &Figures, [h, w]: [u32; 2], recording: Recording) -> Outcome {
     refuse(7, plan.kind != CONTINUOUS)?;
     refuse(9, full(station))?;
     refuse(15, h > 10_000 || w > 1 || (h == 0 && w == 0))?;
     refuse(14, before.phase == 1 || before.c + h + w > plan.a)?;
+    refuse(17, recording.number == 0)?;
     let mut after = *before;
-    let entry = Entry::Run { h, w };
+    let entry = Entry::Run { h, w, recording };
     let given = enter(plan, &mut after, &entry);
     station.entries.push(entry);
     Ok([given.accepted, after.phase, 0])
 }
 
-fn block(station: &mut Station, plan: &Plan, before: &Figures, p: u32, w: u32) -> Outcome {
+fn block(station: &mut Station, plan: &Plan, before: &Figures, [p, w]: [u32; 2], recording: Recording) -> Outcome {
     refuse(7, plan.kind != CONTINUOUS)?;
     refuse(9, full(station))?;
     refuse(15, p < 1 || p > plan.b || w > 1)?;
     refuse(14, before.phase == 0)?;
+    refuse(17, recording.number == 0)?;
     let mut after = *before;
-    let entry = Entry::Block { p, w };
+    let entry = Entry::Block { p, w, recording };
     let given = enter(plan, &mut after, &entry);
     station.entries.push(entry);
     Ok([given.accepted, given.hear_back, after.phase])
@@ -224,6 +273,12 @@ fn read(station: &Station, plan: &Plan, before: &Figures) -> [u32; 3] {
         _ => before.c,
     };
     [station.entries.len() as u32, before.accepted as u32, third]
+}
+
+/// "As many come back as the count says, or all where fewer stand."
+pub fn newest(entries: &[Entry], count: u32) -> &[Entry] {
+    let back = entries.len().min(count as usize);
+    &entries[entries.len() - back..]
 }
 
 /// The kind that a record of this entry has, and that a take-back of it gives.

@@ -3,12 +3,14 @@
 use crate::area::{call_on_store, STORE};
 use crate::calls::{call_of, Answer, Frame, ARGUMENTS};
 
+/// So many digits are a frame: two of the call, two of the stream, eight of each argument.
+pub const DIGITS: usize = 4 + 8 * ARGUMENTS;
 /// What the program prints for a line that holds no frame.
 pub const NO_FRAME: &str = "ff";
 
 /// The frame that a line holds; none gives [`NO_FRAME`].
 pub fn frame(line: &[u8]) -> Option<Frame> {
-    if line.len() != 4 + 8 * ARGUMENTS {
+    if line.len() != DIGITS {
         return None;
     }
     let mut digits = Vec::new();
@@ -34,12 +36,9 @@ pub fn frame(line: &[u8]) -> Option<Frame> {
 
 /// The line of a frame whose stream a line can hold.
 pub fn line(frame: &Frame) -> String {
-    let Frame {
-        call,
-        stream,
-        args: [a, b, c, d, e],
-    } = frame;
-    format!("{call:02x}{stream:02x}{a:08x}{b:08x}{c:08x}{d:08x}{e:08x}")
+    let Frame { call, stream, args } = frame;
+    let digits: String = args.iter().map(|arg| format!("{arg:08x}")).collect();
+    format!("{call:02x}{stream:02x}{digits}")
 }
 
 /// An answer as the program prints it, without its line feed.

@@ -1,5 +1,5 @@
-//! The reference: paper 01 once more, written from the papers alone and from nothing of the proved crates. A stream is its plan and
-//! the list of its standing entries, and whatever is asked is worked out from that list anew: slow, and plain on purpose.
+//! The reference: papers 01 and 02 (card 1) once more, written from the papers alone and from nothing of the proved crates. A stream is
+//! its plan and the list of its standing entries, and whatever is asked is worked out from that list anew: slow, and plain on purpose.
 //!
 //! Read `samples`, `station`, `calls`, `area`, in this order. `backward` has paper 01's backward rules, `frames` the program over
 //! standard input, `random`, `arguments` and `making` the random calls that the tests make.
@@ -15,12 +15,13 @@ mod samples;
 mod station;
 
 pub use area::{
-    area_at, area_bytes, call_on_store, header, read_area, record, record_at, Place, AREA, RECORD, RECORDS_FROM, STORE, STREAMS,
+    area_at, area_bytes, call_on_store, header, newest_part, newest_part_on_store, read_area, record, record_at, Part, Place, AREA,
+    RECORD, RECORDS_FROM, STORE, STREAMS,
 };
 pub use arguments::{plain_frame, plain_frames};
 pub use backward::{backward_c, backward_credit, backward_phase, backward_tail, backward_window};
-pub use calls::{answer, call_of, entry_of, Answer, Call, Frame, ARGUMENTS, ASK, BACK, BLOCK, LOT, OPEN, READ, RUN, STOP};
-pub use frames::{answer_line, frame, frames_output, line, printed, NO_FRAME};
+pub use calls::{answer, call_of, entry_of, Answer, Call, Frame, ARGUMENTS, ASK, BACK, BLOCK, LOT, NEWEST, OPEN, READ, RUN, STOP};
+pub use frames::{answer_line, frame, frames_output, line, printed, DIGITS, NO_FRAME};
 pub use making::Caller;
 pub use random::Random;
-pub use station::{figures, Entry, Figures, Plan, Station, CONTINUOUS, CREDIT, FULL, LEVEL};
+pub use station::{figures, Entry, Figures, Plan, Recording, Station, CONTINUOUS, CREDIT, FULL, LEVEL};

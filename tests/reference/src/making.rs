@@ -4,10 +4,10 @@
 
 use crate::area::{area_at, area_bytes, STREAMS};
 use crate::arguments::{
-    any_plan_args, asked_size, bad_plan_args, block_args, lot_args, lot_size, plain_frame, plan_args, run_args, stop_args, Args,
-    Mood,
+    any_plan_args, asked_size, bad_plan_args, block_args, lot_args, newest_args, plain_frame, plan_args, run_args, stop_args,
+    stray_lot_args, stray_run_args, Args, Mood,
 };
-use crate::calls::{answer, call_of, Answer, Frame, ARGUMENTS, ASK, BACK, BLOCK, LOT, OPEN, READ, RUN, STOP};
+use crate::calls::{answer, call_of, Answer, Frame, ARGUMENTS, ASK, BACK, BLOCK, LOT, NEWEST, OPEN, READ, RUN, STOP};
 use crate::random::Random;
 use crate::station::{figures, Figures, Plan, Station, CONTINUOUS, FULL, LEVEL};
 
@@ -110,7 +110,7 @@ impl Caller {
     fn wrong_stream(&mut self) -> Frame {
         let streams = [16, 17, 31, 128, 254, 255, 256, 257, 65_536, 1 << 31, u32::MAX];
         let stream = self.random.pick(&streams).min(self.highest_stream);
-        match self.random.range(OPEN, READ) {
+        match self.random.range(OPEN, NEWEST) {
             OPEN => Frame {
                 call: OPEN,
                 stream,
@@ -128,7 +128,7 @@ impl Caller {
         if random.chance(2, 3) {
             return (OPEN, bad_plan_args(random));
         }
-        let call = random.range(LOT, READ);
+        let call = random.range(LOT, NEWEST);
         (call, plain_frame(call, s as u32).args)
     }
 
@@ -188,7 +188,7 @@ impl Caller {
         aims && self.stations[s].entries.len() + to_discontinued == FULL
     }
 
-    /// Open again, Read, Ask, and calls of any kind, whatever the plan.
+    /// Open again, Read, Ask, Newest, and calls of any kind, whatever the plan.
     fn looks_or_strays(&mut self, s: usize, plan: &Plan) -> Option<(u32, Args)> {
         let random = &mut self.random;
         if random.chance(1, 300) {
@@ -205,14 +205,17 @@ impl Caller {
             return Some((READ, [0; ARGUMENTS]));
         }
         if random.chance(1, 10) {
-            return Some((ASK, [asked_size(random), 0, 0, 0, 0]));
+            return Some((ASK, [asked_size(random), 0, 0, 0, 0, 0, 0]));
+        }
+        if random.chance(1, 12) {
+            return Some((NEWEST, newest_args(random, self.stations[s].entries.len())));
         }
         if random.chance(1, 100) {
             let mood = &self.moods[s];
             let interval = if plan.kind == CONTINUOUS { plan.b } else { 50 };
             return Some(match random.range(LOT, STOP) {
-                LOT => (LOT, [random.odd(), lot_size(random, false), random.range(1, 100), 0, 0]),
-                RUN => (RUN, [random.range(0, 10), random.range(0, 1), 0, 0, 0]),
+                LOT => (LOT, stray_lot_args(random, mood)),
+                RUN => (RUN, stray_run_args(random, mood)),
                 BLOCK => (BLOCK, block_args(random, interval, mood)),
                 _ => (STOP, stop_args(random, mood)),
             });
@@ -235,7 +238,7 @@ impl Caller {
         let out_of_phase = random.chance(mood.err, 4000);
         match (now.phase, out_of_phase) {
             (0, false) => (RUN, run_args(random, plan.a - now.c, mood)),
-            (_, true) if now.phase == 1 => (RUN, [random.range(0, 9), random.range(0, 1), 0, 0, 0]),
+            (_, true) if now.phase == 1 => (RUN, stray_run_args(random, mood)),
             _ => (BLOCK, block_args(random, plan.b, mood)),
         }
     }

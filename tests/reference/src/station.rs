@@ -18,12 +18,36 @@ pub struct Plan {
     pub b: u32,
 }
 
+/// Paper 02, card 1: the raw recording that a lot, run or block was heard on, and the second of it at which the entry starts.
+#[derive(Clone, Copy, Debug, PartialEq, Eq)]
+pub struct Recording {
+    pub number: u32,
+    pub second: u32,
+}
+
 #[derive(Clone, Copy, Debug, PartialEq, Eq)]
 pub enum Entry {
-    Lot { label: u32, size: u32, d: u32, all: u32 },
-    Run { h: u32, w: u32 },
-    Block { p: u32, w: u32 },
-    Stop { why: u32, days: u32 },
+    Lot {
+        label: u32,
+        size: u32,
+        d: u32,
+        all: u32,
+        recording: Recording,
+    },
+    Run {
+        h: u32,
+        w: u32,
+        recording: Recording,
+    },
+    Block {
+        p: u32,
+        w: u32,
+        recording: Recording,
+    },
+    Stop {
+        why: u32,
+        days: u32,
+    },
 }
 
 /// A stream's plan, none before Open, and its standing entries, oldest first.
@@ -90,8 +114,8 @@ pub fn verdict(plan: &Plan, figures: &Figures, d: u32) -> u32 {
 pub fn enter(plan: &Plan, figures: &mut Figures, entry: &Entry) -> Given {
     let given = match *entry {
         Entry::Lot { size, d, all, .. } => enter_lot(plan, figures, size, d, all),
-        Entry::Run { h, w } => enter_run(plan, figures, h, w),
-        Entry::Block { p, w } => enter_block(plan, figures, p, w),
+        Entry::Run { h, w, .. } => enter_run(plan, figures, h, w),
+        Entry::Block { p, w, .. } => enter_block(plan, figures, p, w),
         Entry::Stop { why, days } => enter_stop(plan, figures, why, days),
     };
     figures.accepted += u64::from(given.accepted);

@@ -8,7 +8,9 @@ use Rattle.records.proofs.get_record_at.Tie as tie
 
 returns : tie.Need-returns
 returns c =
-    rw (c .before .before .before .before .get-u16 .ensures, c .before .before .before .get-u32 .ensures, c .before .before .get-u322 .ensures, c .before .get-u323 .ensures, c .get-u324 .ensures)
+    let fourth = c .before in
+    let second = fourth .before .before in
+    rw (second .before .before .get-u16 .ensures, second .before .get-u32 .ensures, second .get-u322 .ensures, fourth .before .get-u323 .ensures, fourth .get-u324 .ensures, c .get-recording .ensures)
     (sym (record-read _ _))
 
 pub get-record-at-spec : {M : Type 1} → statement M
@@ -16,4 +18,4 @@ get-record-at-spec =
     tie.close
     (tie.spec (λ c. search needs) (λ c. search needs) (λ c. search needs) (λ c. search needs) (λ c κs. search needs) (λ c. search needs)
     (λ c κs. search needs) (λ c. search needs) (λ c κs. search needs) (λ c. search needs) (λ c κs. search needs) (λ c. search needs)
-    (λ c κs. search needs) returns)
+    (λ c κs. search needs) (λ c. search needs) (λ c κs. search needs) returns)

@@ -8,5 +8,5 @@ use Rattle.replay_level.proofs.step_lot.Tie as tie
 pub step-lot-spec : {M : Type 1} → statement M
 step-lot-spec =
     tie.close
-    (tie.spec (λ c κs. search needs) (λ c. cc) (λ c κs. (c .before .pre, λ none. ⊎-elim (λ w. omega arith) (λ w. omega arith) (c .if1 .came)))
+    (tie.spec (λ c κs. search needs) (λ c. cc) (λ c κs. (c .before .before .pre, λ none. ⊎-elim (λ w. omega arith) (λ w. omega arith) (c .if1 .came)))
     (λ c. search needs))

@@ -7,4 +7,4 @@ use Rattle.replaying.proofs.why_of.Tie as tie
 pub why-of-spec : {M : Type 1} → statement M
 why-of-spec =
     tie.close
-    (tie.spec (λ c κs. search needs) (λ c. search whys) (λ c κs. search needs) (λ c. search whys) (λ c. search whys) (λ c. search whys))
+    (tie.spec (λ c κs. search needs) (λ c. search whys) (λ c κs. search needs) (λ c. search whys) (λ c κs. search needs) (λ c. search whys) (λ c. search whys) (λ c. search whys))

@@ -1,7 +1,7 @@
 -- Each test in turn.
 use Rattle.rules.proofs.UpToLast.{in-turn}
 use Rattle.model.specs.Stations.{isContinuous}
-use Rattle.model.specs.Calls.{entryRefusals, isFull}
+use Rattle.model.specs.Calls.{ruleRefusals, isFull}
 use Rattle.rules.specs.Refusing.{LotUpToLast, earlier}
 use Rattle.rules.proofs.Counts.{size-passed, credit-within}
 use borrow.Author.Needs.{needs}
@@ -15,7 +15,7 @@ sample-requires c κs =
     (search, search in-turn, search credit-within, size .0, size .1)
 
 pub lot-spec : {M : Type 1} → statement M
-unfolding LotUpToLast earlier entryRefusals isContinuous isFull
+unfolding LotUpToLast earlier ruleRefusals isContinuous isFull
 lot-spec =
     tie.close
     (tie.spec (λ c. search in-turn depth 12) (λ c κs. search needs) (λ c. search in-turn depth 12) (λ c. search in-turn depth 12) (λ c κs. search needs) (λ c. search in-turn depth 12) (λ c κs. search needs) (λ c. search in-turn depth 12) sample-requires

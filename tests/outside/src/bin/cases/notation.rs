@@ -5,9 +5,14 @@
 //!     // text                    a comment, on a line of its own, which ends no case, or after a line
 //!     lot 1 201 51 0 0 -> 0 1 201 201
 //!                                a call by its name, its arguments, the refusal and the numbers of its answer, all decimal
+//!     lot 1 201 51 0 0 4711 90 -> 0 1 201 201
+//!                                the same with a recording, as a run and a block may have it: its number and its second, or neither,
+//!                                which is number 1, second 0
 //!     stream 3                   the lines up to the end of the case are about this stream; a case begins with stream 0
 //!     bytes 16 4 -> c9 00 00 00  so many bytes of the stream's area from this one on
 //!     sound -> 1                 whether the stream's area is sound
+//!     part 1 -> 76: 04 01 00 ..  the part that call 9 hands back for this count: the byte of the store at which it starts, and its bytes,
+//!                                of which there may be none
 //!     put 16 c8 00               writes these bytes into the stream's area, as no call does
 //!     frame 06ff -> ff           a line for the program, and the line that it prints; \r is a carriage return
 //!
@@ -16,7 +21,7 @@
 //! `put`, since the program has no part in it there, and a file without a case.
 
 use crate::calls::call;
-use reference::{area_at, frame, Answer, Frame, AREA, NO_FRAME, STREAMS};
+use reference::{area_at, frame, Answer, Frame, Part, AREA, NO_FRAME, STREAMS};
 use std::fmt;
 use std::ops::Range;
 
@@ -46,6 +51,8 @@ pub enum Action {
     Bytes(Range<usize>),
     /// Whether this stream's area is sound.
     Sound(u32),
+    /// The newest records of this stream, for this count.
+    Part(u32, u32),
     /// From this byte of the store on.
     Put(usize, Vec<u8>),
 }
@@ -56,6 +63,7 @@ pub enum Given {
     Printed(String),
     Bytes(Vec<u8>),
     Sound(bool),
+    Part(Part),
 }
 
 impl fmt::Display for Given {
@@ -63,13 +71,16 @@ impl fmt::Display for Given {
         match self {
             Given::Answer([refusal, first, second, third]) => write!(out, "{refusal} {first} {second} {third}"),
             Given::Printed(line) => write!(out, "'{line}'"),
-            Given::Bytes(bytes) => {
-                let pairs: Vec<String> = bytes.iter().map(|byte| format!("{byte:02x}")).collect();
-                write!(out, "{}", pairs.join(" "))
-            }
+            Given::Bytes(bytes) => write!(out, "{}", pairs(bytes)),
             Given::Sound(sound) => write!(out, "{}", u32::from(*sound)),
+            Given::Part(Part { at, bytes }) => write!(out, "{}", format!("{at}: {}", pairs(bytes)).trim_end()),
         }
     }
+}
+
+fn pairs(bytes: &[u8]) -> String {
+    let pairs: Vec<String> = bytes.iter().map(|byte| format!("{byte:02x}")).collect();
+    pairs.join(" ")
 }
 
 /// The cases that the text of a file says.
@@ -231,6 +242,7 @@ fn step(said: &str, stream: u32) -> Result<(Action, Option<Given>), String> {
         "bytes" => area_bytes(rest, gives, stream)?,
         "sound" if words(rest).next().is_some() => return Err("sound takes no argument".into()),
         "sound" => (Action::Sound(with_area(stream)?), soundness(gives)?),
+        "part" => newest_part(rest, gives, stream)?,
         _ => (Action::Call(call(name, stream, &numbers(rest)?)?), answer(gives)?),
     };
     Ok((action, Some(expected)))
@@ -255,6 +267,22 @@ fn area_bytes(place: &str, gives: &str, stream: u32) -> Result<(Action, Given), 
         return Err(format!("{} bytes, not {length}", bytes.len()));
     }
     Ok((Action::Bytes(in_area(at, bytes.len(), stream)?), Given::Bytes(bytes)))
+}
+
+fn newest_part(count: &str, gives: &str, stream: u32) -> Result<(Action, Given), String> {
+    let [count] = numbers(count)?[..] else {
+        return Err("part takes a count".into());
+    };
+    Ok((Action::Part(stream, count), Given::Part(part_in(gives)?)))
+}
+
+/// The part that is written so.
+pub fn part_in(text: &str) -> Result<Part, String> {
+    let (at, pairs) = text.split_once(':').ok_or("a part is a place, ':' and bytes")?;
+    Ok(Part {
+        at: number(at)? as usize,
+        bytes: byte_pairs(pairs)?,
+    })
 }
 
 fn answer(gives: &str) -> Result<Given, String> {

@@ -1,25 +1,26 @@
-//! The stored run of the program, crates/frames/stdin and stdout, made of cases of tests/cases/paper-01.txt.
+//! The stored run of the program, crates/frames/stdin and stdout, made of cases of paper 01's file and of card 1's.
 
 use crate::notation::{has_put, Action, Case, Given, Step};
 use crate::{place, running};
 use outside::at;
-use reference::{answer_line, line, NO_FRAME};
+use reference::{answer_line, line, NEWEST, NO_FRAME, OPEN};
 use std::fs;
 
-const CASES: &str = "tests/cases/paper-01.txt";
+const CASES: [&str; 2] = ["tests/cases/paper-01.txt", "tests/cases/card-01.txt"];
 const INPUT: &str = "crates/frames/stdin";
 const OUTPUT: &str = "crates/frames/stdout";
 
 /// The run begins with this case, by itself.
 const FIRST: &str = "Hexadecimal frames: the whole case";
-/// Then come these together, a line of each in turn: the first is lines that are no frame; the cases on one stream go to streams 1 to
-/// 14; the last names its own streams.
-const IN_TURN: [&str; 16] = [
+/// Then come these together, a line of each in turn: the first two are lines that are no frame; the cases on one stream go to streams 1
+/// to 14; the last names its own streams.
+const IN_TURN: [&str; 17] = [
     "Hexadecimal frames: lines that are no frame",
-    "Table of proved cases: credit, A = 10,000",
+    "Frames: 44 digits, a call's arguments without a recording, are no frame any more",
     "Table of proved cases: VL-2, normal and tightened",
-    "Table of proved cases: VL-7",
     "Table of proved cases: continuous, i 116, g 48",
+    "A day on a credit stream with recordings",
+    "A day on a continuous stream with recordings",
     "Credit lots: a wrong lot without credit is heard whole, with credit it is returned",
     "Credit lots: with option 1 a wrong lot is heard whole even with credit, and the credit is lost",
     "Level lots: what ends reduced",
@@ -33,7 +34,7 @@ const IN_TURN: [&str; 16] = [
     "Calls: a stream above 15, and one that is not opened",
 ];
 /// The refusals that the program can give: its store has the right length, and only calls write it.
-const REFUSALS: [u32; 14] = [2, 4, 5, 6, 7, 8, 9, 10, 11, 12, 13, 14, 15, 16];
+const REFUSALS: [u32; 15] = [2, 4, 5, 6, 7, 8, 9, 10, 11, 12, 13, 14, 15, 16, 17];
 
 /// A line of the input, and the line that it gives.
 type Exchange = (Vec<u8>, String);
@@ -53,7 +54,10 @@ pub fn test() -> Result<(), String> {
     for (file, text) in [(INPUT, input), (OUTPUT, output)] {
         let stored = fs::read(place(file)).map_err(|why| format!("{file}: {why}"))?;
         if stored != text {
-            return Err(format!("{file} is not what {CASES} gives: 'cases stored-run' writes it"));
+            return Err(format!(
+                "{file} is not what {} give: 'cases stored-run' writes it",
+                CASES.join(" and ")
+            ));
         }
     }
     Ok(())
@@ -68,7 +72,10 @@ fn texts() -> Result<(Vec<u8>, Vec<u8>), String> {
 }
 
 fn exchanges() -> Result<Vec<Exchange>, String> {
-    let cases = at(|| CASES.into(), running::read(&place(CASES)))?;
+    let mut cases = Vec::new();
+    for file in CASES {
+        cases.extend(at(|| file.into(), running::read(&place(file)))?);
+    }
     let mut exchanges = exchanges_of(named(&cases, FIRST)?, 0);
     let mut stream = 0;
     let mut waiting = Vec::new();
@@ -86,19 +93,19 @@ fn exchanges() -> Result<Vec<Exchange>, String> {
 
 fn named<'a>(cases: &'a [Case], name: &str) -> Result<&'a Case, String> {
     match cases.iter().find(|case| case.name == name) {
-        Some(case) if has_put(case) => Err(format!("{CASES}: '{name}' has a put, in which the program has no part")),
+        Some(case) if has_put(case) => Err(format!("'{name}' has a put, in which the program has no part")),
         Some(case) => Ok(case),
-        None => Err(format!("{CASES} has no case '{name}'")),
+        None => Err(format!("no case '{name}' in {}", CASES.join(" or "))),
     }
 }
 
 /// Whether its calls are all on stream 0, and so can be made on another stream as well. A line that it gives to the program stays as
-/// it is; its `bytes` and `sound` lines are left out of the run.
+/// it is; its `bytes`, `sound` and `part` lines are left out of the run.
 fn keeps_to_stream_0(case: &Case) -> bool {
     case.steps.iter().all(|step| match &step.action {
         Action::Call(frame) => frame.stream == 0,
         Action::Line(_) => false,
-        Action::Bytes(_) | Action::Sound(_) | Action::Put(..) => true,
+        Action::Bytes(_) | Action::Sound(_) | Action::Part(..) | Action::Put(..) => true,
     })
 }
 
@@ -119,8 +126,14 @@ fn exchanges_of(case: &Case, stream: u32) -> Vec<Exchange> {
     case.steps.iter().filter_map(exchange).collect()
 }
 
-/// Every refusal that the program can give is there, and a line that is no frame.
+/// Every call is there and accepted, every refusal that the program can give, and a line that is no frame.
 fn complete(exchanges: &[Exchange]) -> Result<(), String> {
+    for call in OPEN..=NEWEST {
+        let is_made = |(line, answer): &Exchange| line.starts_with(format!("{call:02x}").as_bytes()) && answer.starts_with("00");
+        if !exchanges.iter().any(is_made) {
+            return Err(format!("no line of the stored run makes call {call} so that it is accepted"));
+        }
+    }
     let refusals = REFUSALS.map(|refusal| answer_line(&[refusal, 0, 0, 0]));
     for wanted in refusals.into_iter().chain([NO_FRAME.into()]) {
         if exchanges.iter().all(|(_, answer)| *answer != wanted) {

@@ -1,9 +1,12 @@
 //! The ways in which a case's steps are taken: the static library, by Rust and by C, the reference, and the program.
 
-use crate::notation::{answer_in, Action, Given, Step};
+use crate::notation::{answer_in, part_in, Action, Given, Step};
 use outside::programs::{printed_by, FRAMES};
-use outside::{make, Make};
-use reference::{answer_line, area_at, call_on_store, frame, line, plain_frame, read_area, Answer, Frame, READ, STORE};
+use outside::{make, newest, Make};
+use reference::{
+    answer_line, area_at, call_on_store, frame, line, newest_part_on_store, plain_frame, read_area, Answer, Frame, Part, READ,
+    STORE,
+};
 use std::io::Write;
 
 /// The program that makes calls by include/listening.h; tests/run builds it.
@@ -47,6 +50,7 @@ struct Inside {
     /// What it prints for a line; none where that is not its part.
     print: fn(&mut [u8], &[u8]) -> Option<String>,
     is_sound: fn(&[u8], u32) -> bool,
+    newest: fn(&[u8], u32, u32) -> Part,
 }
 
 /// The library takes a line only as the call that it is.
@@ -54,12 +58,14 @@ const LIBRARY: Inside = Inside {
     make,
     print: |store, line| frame(line).map(|frame| answer_line(&make(store, &frame))),
     is_sound: |store, stream| is_sound(&make(&mut store.to_vec(), &reading(stream))),
+    newest: |store, stream, count| newest(store, stream, count).1,
 };
 
 const REFERENCE: Inside = Inside {
     make: call_on_store,
     print: |store, line| Some(reference::printed(store, line)),
     is_sound: |store, stream| read_area(&store[area_at(stream)]).is_some(),
+    newest: newest_part_on_store,
 };
 
 impl Inside {
@@ -78,6 +84,7 @@ impl Inside {
             Action::Line(line) => (self.print)(store, line).map(Given::Printed),
             Action::Bytes(place) => Some(Given::Bytes(store[place.clone()].to_vec())),
             Action::Sound(stream) => Some(Given::Sound((self.is_sound)(store, *stream))),
+            Action::Part(stream, count) => Some(Given::Part((self.newest)(store, *stream, *count))),
             Action::Put(at, bytes) => {
                 store[*at..*at + bytes.len()].copy_from_slice(bytes);
                 None
@@ -95,17 +102,20 @@ fn is_sound(answer: &Answer) -> bool {
     answer[0] != UNSOUND
 }
 
-/// A call is a line of numbers; the number 0, a byte's place and its value write that byte. Each call is answered by a line of
-/// numbers, and after the last line comes the store.
+/// A word and numbers are a line: a call with its numbers, a part with its stream and its count, and for each byte that is put its place
+/// and its value. Calls and parts are answered by a line each, and after the last line comes the store.
 fn through_c(steps: &[Step]) -> Result<Taken, String> {
     let (mut input, mut asked) = (Vec::new(), Vec::new());
     for (k, step) in steps.iter().enumerate() {
         if let Action::Put(at, bytes) = &step.action {
             for (byte, place) in bytes.iter().zip(*at as u32..) {
-                input.extend(numbers_line(&[0, place, (*byte).into()]));
+                input.extend(numbers_line("put", &[place, (*byte).into()]));
             }
+        } else if let Action::Part(stream, count) = &step.action {
+            input.extend(numbers_line("part", &[*stream, *count]));
+            asked.push(k);
         } else if let Some(frame) = call_in(&step.action) {
-            input.extend(numbers_line(&frame.numbers()));
+            input.extend(numbers_line("call", &frame.numbers()));
             asked.push(k);
         }
     }
@@ -113,6 +123,9 @@ fn through_c(steps: &[Step]) -> Result<Taken, String> {
     let lines_end = output.len().checked_sub(STORE).ok_or("C printed no store")?;
     let store = output.split_off(lines_end);
     let given = given_by(steps, &asked, &output, |action, line| {
+        if let Action::Part(..) = action {
+            return part_in(line).ok().map(Given::Part);
+        }
         let numbers: Option<Vec<u32>> = line.split(' ').map(|word| word.parse().ok()).collect();
         numbers?.try_into().ok().map(|answer| given(action, answer))
     })?;
@@ -122,9 +135,9 @@ fn through_c(steps: &[Step]) -> Result<Taken, String> {
     })
 }
 
-fn numbers_line(numbers: &[u32]) -> Vec<u8> {
+fn numbers_line(word: &str, numbers: &[u32]) -> Vec<u8> {
     let words: Vec<String> = numbers.iter().map(u32::to_string).collect();
-    format!("{}\n", words.join(" ")).into_bytes()
+    format!("{word} {}\n", words.join(" ")).into_bytes()
 }
 
 /// The call that a step makes of a way that has calls alone.
@@ -133,7 +146,7 @@ fn call_in(action: &Action) -> Option<Frame> {
         Action::Call(frame) => Some(*frame),
         Action::Line(line) => frame(line),
         Action::Sound(stream) => Some(reading(*stream)),
-        Action::Bytes(_) | Action::Put(..) => None,
+        Action::Bytes(_) | Action::Part(..) | Action::Put(..) => None,
     }
 }
 
@@ -145,7 +158,7 @@ fn given(action: &Action, answer: Answer) -> Given {
     }
 }
 
-/// Nobody but its calls writes the program's store, so it has no part in what follows a `put`.
+/// Nobody but its calls writes the program's store, so it has no part in what follows a `put`. It prints no records.
 fn through_program(steps: &[Step]) -> Result<Taken, String> {
     let (mut input, mut asked) = (Vec::new(), Vec::new());
     for (k, step) in steps.iter().enumerate() {
@@ -153,7 +166,7 @@ fn through_program(steps: &[Step]) -> Result<Taken, String> {
             Action::Call(frame) => line(frame).into_bytes(),
             Action::Line(text) => text.clone(),
             Action::Sound(stream) => line(&reading(*stream)).into_bytes(),
-            Action::Bytes(_) => continue,
+            Action::Bytes(_) | Action::Part(..) => continue,
             Action::Put(..) => break,
         };
         input.extend([&text[..], b"\n"].concat());
