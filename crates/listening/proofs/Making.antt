@@ -4,6 +4,7 @@ use Prim.Native.Nat.{ℕ, _+_, _-_, _≤_, _<_, min}
 use mathlib.Core.Path.{_≡_, refl, sym, ap, _∙_}
 use mathlib.Core.Bool.{Bool, true, false, not}
 use mathlib.Core.List.{List}
+use native.Mathlib.Nat.{add-comm}
 use native.Mathlib.Omega.{arith}
 use borrow.Author.Tests.{not-true, not-false}
 use mir.Val.{Fits}
@@ -25,7 +26,7 @@ use Rattle.model.specs.Records.{recordIn}
 use Rattle.model.specs.FigureBounds.{FiguresWithin}
 use Rattle.model.specs.Calls.{refused, gives, refusalOf, refusals, firstOf, askRefusals, readFigure, newestOf}
 use Rattle.model.specs.Area.{zeros, headerOf}
-use Rattle.model.specs.Store.{StoreOutcome, areaAt, onStore, endingAtLast, noPart, newestPart, newestRecords}
+use Rattle.model.specs.Store.{StoreOutcome, areaAt, onStore, endingAtLast, noPart, newestPart}
 use Rattle.model.specs.Claims.{on}
 use Rattle.model.proofs.Booleans.{of-holds}
 use Rattle.model.proofs.NewestRecords.{no-part, opened-part, part-fits}
@@ -46,7 +47,7 @@ use Rattle.areas.proofs.Outcomes.{
   has-read,
   newest-counted,
 }
-use Rattle.listening.specs.Handed.{lookedAt, MayWrite}
+use Rattle.listening.specs.Handed.{lookedAt, MayWrite, partOf}
 use Rattle.listening.proofs.Looking.{keeps, OpenedIn, UnopenedIn, opened-in, unopened-in, on-kept, on-written, look-refused}
 
 -- ---- refused by what is seen, for every call but Open
@@ -209,11 +210,13 @@ module _ (store : List ℕ) (stream n : ℕ) (found : Part) (same : found ≡ ne
   pub part-inside : found .offset + found .length ≤ length store
   part-inside = rw same (part-fits store stream n)
 
-  pub part-taken : take (found .offset + found .length - found .offset) (drop (found .offset) store) ≡ newestRecords store stream n
-  unfolding newestRecords part
-  part-taken =
+  pub part-taken : (start : ℕ × ℕ)
+      → ((start .0, found .offset + start .1), take (found .offset + found .length - found .offset) (drop (found .offset) store))
+      ≡ partOf start store (newestPart store stream n)
+  unfolding part
+  part-taken start =
       let wide : found .offset + found .length - found .offset ≡ found .length = omega arith in
-      rw (wide, same)
+      rw (wide, same, add-comm (newestPart store stream n .offset) (start .1))
 
 pub ask-lots : (s : Standing) (size n : ℕ) → n ≡ firstOf (askRefusals (s .plan) (s .figures) size) → n ≡ 0 → isContinuous (s .plan) ≡ false
 ask-lots s size n said none = allowed-ask _ _ _ (sym said ∙ none) .0

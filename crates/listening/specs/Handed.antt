@@ -1,12 +1,14 @@
 -- What the calls' functions hand to one another: Open's arguments, the refusals before the area is looked at, what a call sees of a
--- stream, and what a write asks. Assumes nothing.
-use Prim.Native.Nat.{ℕ, _<_}
+-- stream, what a write asks, and what is handed back. Assumes nothing.
+use Prim.Native.Nat.{ℕ, _+_, _<_}
 use mathlib.Core.Path.{_≡_}
 use mathlib.Core.Bool.{cond, not}
 use mathlib.Core.List.{List}
 use lib.Dec.{T, eqb, leb}
 use lib.ListN.{length}
+use Rattle.little.specs.Little.{part}
 use Rattle.model.specs.declared.Plan.{Plan}
+use Rattle.model.specs.declared.Part.{Part}
 use Rattle.model.specs.declared.Figures.{Figures}
 use Rattle.model.specs.Sizes.{mostRecords, streams, storeLength}
 use Rattle.model.specs.Stations.{validPlan}
@@ -38,3 +40,7 @@ pub record MayWrite (store : List ℕ) (stream : ℕ) (p : Plan) (i : ℕ) (f : 
   pub valid : T (validPlan p)
   pub room : i < mostRecords
   pub fits : LevelFits (f .level)
+
+-- a part of a lent store, by where the store points: where the part points, and its bytes
+abbrev pub partOf : ℕ × ℕ → List ℕ → Part → (ℕ × ℕ) × List ℕ
+partOf start store q = ((start .0, start .1 + q .offset), part (q .offset) (q .length) store)

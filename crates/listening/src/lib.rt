@@ -14,11 +14,11 @@ ghost use Rattle.model.specs.Stations.{validPlan};
 ghost use Rattle.model.specs.Figuring.{started};
 ghost use Rattle.model.specs.Records.{recordBytes, recordIn};
 ghost use Rattle.model.specs.Area.{zeros, headerOf};
-ghost use Rattle.model.specs.Store.{areaAt, onStore, endingAtLast, newestPart, newestRecords};
+ghost use Rattle.model.specs.Store.{areaAt, onStore, endingAtLast, newestPart};
 ghost use Rattle.model.specs.Claims.{on};
 ghost use Rattle.records.specs.Records.{recordAt};
 ghost use Rattle.areas.specs.Written.{rewritten};
-ghost use Rattle.listening.specs.Handed.{planOf, storeRefusal, lookedAt, MayWrite};
+ghost use Rattle.listening.specs.Handed.{planOf, storeRefusal, lookedAt, MayWrite, partOf};
 use model::Answer;
 use model::Call;
 use model::Entry;
@@ -297,9 +297,10 @@ pub fn newest_part(store: &[u8], stream: u32, count: u32) -> Part
     ending_at_last(stream, standing.count, at_most(count, standing.count))
 }
 
-// The records themselves: a part of the lent store, ending at the last standing record, and empty where the call is refused.
+// The records themselves: a part of the lent store, ending at the last standing record, and empty where the call is refused. Its contract
+// says at which place of the store it starts, and its bytes.
 pub fn newest(store: &[u8], stream: u32, count: u32) -> &[u8]
-    ensures { λ r. ⌜ now r ≡ newestRecords (now (store .entry)) stream count ⌝ }
+    ensures { λ r. ⌜ (r .ptr, now r) ≡ partOf (store .entry .ptr) (now (store .entry)) (newestPart (now (store .entry)) stream count) ⌝ }
 {
     let found = newest_part(store, stream, count);
     let start = found.offset;

@@ -12,7 +12,7 @@ part-result-end : tie.Need-part-result-end
 part-result-end c = omega (arith, part-inside _ _ _ _ (c .before .newest-part .ensures))
 
 returns : tie.Need-returns
-returns c = part-taken _ _ _ _ (c .before .before .newest-part .ensures)
+returns c = part-taken _ _ _ _ (c .before .before .newest-part .ensures) _
 
 pub newest-spec : {M : Type 1} → statement M
 newest-spec =
