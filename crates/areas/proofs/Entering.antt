@@ -7,7 +7,7 @@ use mathlib.Core.List.{List}
 use native.Mathlib.Omega.{arith}
 use lib.Dec.{T, eqb, ltb}
 use borrow.Author.Tests.{eqb-true, ne-eqb, ltb-false, leb-false, not-false}
-use Rattle.plans.specs.Limits.{longestRun}
+use Rattle.plans.specs.Limits.{longestRun, within}
 use Rattle.model.specs.declared.Plan.{Plan}
 use Rattle.model.specs.declared.Entry.{Entry}
 use Rattle.model.specs.declared.Entry.the-variants.{Lot, Run, Block, Stop}
@@ -16,7 +16,7 @@ use Rattle.model.specs.declared.Figures.{Figures}
 use Rattle.model.specs.declared.Recording.{Recording}
 use Rattle.model.specs.declared.Answer.{Answer}
 use Rattle.model.specs.Sizes.{mostRecords}
-use Rattle.model.specs.Stations.{isContinuous, within}
+use Rattle.model.specs.Stations.{isContinuous}
 use Rattle.model.specs.Figuring.{sampleAsked, stepped}
 use Rattle.model.specs.Calls.{firstOf, ruleRefusals, isFull, allows, lacksRecording, entryRefusals, refused, entryAnswer}
 use Rattle.model.specs.Records.{recordBytes, recordOf}

@@ -12,7 +12,7 @@ use lib.ListN.{length, take, drop, set, length-append, take-append-drop}
 use Rattle.little.specs.Little.{part, written}
 use Rattle.little.proofs.Laws.{set-written, written-next, length-written}
 use Rattle.model.specs.declared.Answer.{Answer}
-use Rattle.model.specs.Stations.{within}
+use Rattle.plans.specs.Limits.{within}
 use Rattle.model.proofs.Booleans.{both-of}
 use Rattle.frame_text.specs.Digits.{digit, allDigits, digitValue, digitOf, goneOn, hexValue, digitsOf}
 use Rattle.frame_text.specs.Answers.{textLength, badLength, answerText, badText}

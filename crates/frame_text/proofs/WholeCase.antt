@@ -5,7 +5,7 @@ use mathlib.Core.Path.{ap}
 use mathlib.Core.List.{List, [], _∷_, _++_}
 use Rattle.little.specs.Little.{part}
 use Rattle.model.specs.declared.Answer.{Answer}
-use Rattle.model.specs.Stations.{within}
+use Rattle.plans.specs.Limits.{within}
 use Rattle.model.specs.Store.{answersTo}
 use Rattle.model.specs.Claims.{onAll}
 use Rattle.model.specs.Cases.{callsOf, answersOf, frameCase}

@@ -3,7 +3,7 @@ use Prim.Native.Nat.{ℕ, zero, suc, _+_, _-_, _*_, _/_, _%_}
 use mathlib.Core.Bool.{Bool, true, cond, _&&_, _||_}
 use mathlib.Core.List.{List, [], _∷_, _++_}
 use lib.Dec.{leb, ltb}
-use Rattle.model.specs.Stations.{within}
+use Rattle.plans.specs.Limits.{within}
 
 -- `0` to `9`, and `a` to `f`
 unfoldable pub digit : ℕ → Bool

@@ -7,7 +7,7 @@ use native.Mathlib.Omega.{arith}
 use lib.Dec.{T, eqb, ltb, leb, eqb→eq, leb→le, ltb→lt}
 use lib.ListN.{length}
 use borrow.Author.Tests.{ltb-false, leb-false, eqb-true, eqb-false, eq-eqb, ne-eqb, not-false}
-use Rattle.plans.specs.Limits.{largestAoql, verificationLevels, largestClearance, largestInterval, longestRun, longestStop}
+use Rattle.plans.specs.Limits.{largestAoql, verificationLevels, largestClearance, largestInterval, longestRun, longestStop, within}
 use Rattle.plans.specs.Continuous.{isSampling}
 use Rattle.model.specs.declared.Plan.{Plan}
 use Rattle.model.specs.declared.Entry.{Entry}
@@ -15,7 +15,7 @@ use Rattle.model.specs.declared.Entry.the-variants.{Lot, Run, Block, Sto
 use Rattle.model.specs.declared.Figures.{Figures}
 use Rattle.model.specs.declared.Recording.{Recording}
 use Rattle.model.specs.Sizes.{mostRecords}
-use Rattle.model.specs.Stations.{isCredit, isLevel, isContinuous, within, validPlan, entryArguments, allWords}
+use Rattle.model.specs.Stations.{isCredit, isLevel, isContinuous, validPlan, entryArguments, allWords}
 use Rattle.model.specs.Figuring.{sampleAsked, verdictOn, figuresOf}
 use Rattle.model.specs.Calls.{
   Refusal,

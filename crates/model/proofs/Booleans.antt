@@ -1,12 +1,11 @@
 -- Tests taken apart and put together, beside those that plans has. Assumes nothing.
-use Prim.Native.Nat.{ℕ, _^_, _≤_, _<_}
+use Prim.Native.Nat.{ℕ, _^_, _<_}
 use mathlib.Core.Path.{_≡_, refl, sym, subst, _∙_}
 use mathlib.Core.Bool.{Bool, true, false, not, _&&_, _||_}
 use mathlib.Core.List.{List, [], _∷_}
-use lib.Dec.{T, leb, ltb, lt→ltb}
-use borrow.Author.Tests.{leb-true}
-use Rattle.model.specs.Stations.{within, allWords}
-pub use Rattle.plans.proofs.Booleans.{both-of}
+use lib.Dec.{T, ltb, lt→ltb}
+use Rattle.model.specs.Stations.{allWords}
+pub use Rattle.plans.proofs.Booleans.{both-of, both-true, within-of}
 
 pub holds-of : (b : Bool) → T b → b ≡ true
 holds-of true t = refl
@@ -14,11 +13,6 @@ holds-of false t = absurd t
 
 pub of-holds : (b : Bool) → b ≡ true → T b
 of-holds b e = subst (λ (b : Bool). T b) (sym e) tt
-
--- the parts of a conjunction that holds; `both-of` says it of `T`
-pub both-true : (a b : Bool) → a && b ≡ true → (a ≡ true) × (b ≡ true)
-both-true true b e = (refl, e)
-both-true false b e = let never : _≡_ {A = Bool} false true = e in (never, absurd (subst (λ (x : Bool). T (not x)) never tt))
 
 pub both : (a b : Bool) → T a → T b → T (a && b)
 both true b s t = t
@@ -28,12 +22,6 @@ both false b s t = s
 pub neither-of : (a b : Bool) → a || b ≡ false → (a ≡ false) × (b ≡ false)
 neither-of true b e = absurd (subst (λ (x : Bool). T x) e tt)
 neither-of false b e = (refl, e)
-
-pub within-of : (low high n : ℕ) → within low high n ≡ true → (low ≤ n) × (n ≤ high)
-unfolding within
-within-of low high n e =
-    let parts : (leb low n ≡ true) × (leb n high ≡ true) = both-true (leb low n) (leb n high) e in
-    (leb-true low n (parts .0), leb-true n high (parts .1))
 
 -- a test does not come out both ways
 pub never-both : (b : Bool) → b ≡ true → b ≡ false → ⊥

@@ -22,16 +22,8 @@ use Rattle.plans.specs.Levels.{
 }
 use Rattle.plans.specs.Continuous.{screening, sampling, isSampling, afterRun, afterBlock, afterStop}
 use Rattle.little.specs.Little.{bytes, value, part, written}
-use Rattle.model.specs.Stations.{
-  isCredit,
-  isLevel,
-  isContinuous,
-  hasOption,
-  within,
-  validPlan,
-  entryArguments,
-  allWords,
-}
+use Rattle.model.specs.Stations.{isCredit, isLevel, isContinuous, hasOption, validPlan, entryArguments, allWords}
+use Rattle.plans.specs.Limits.{within}
 use Rattle.model.specs.Figuring.{
   noLevel,
   started,

@@ -5,7 +5,7 @@ use mathlib.Core.List.{List, [], _∷_, _++_}
 use lib.Dec.{eqb, ltb, leb}
 use lib.ListN.{length}
 use Rattle.plans.specs.Verdicts.{lotHeard, lotWithheld}
-use Rattle.plans.specs.Limits.{leastLot, largestLot, longestRun, longestStop}
+use Rattle.plans.specs.Limits.{leastLot, largestLot, longestRun, longestStop, within}
 use Rattle.plans.specs.Severities.{discontinued}
 use Rattle.plans.specs.Continuous.{isSampling, afterBlock}
 use Rattle.model.specs.declared.Plan.{Plan}
@@ -16,7 +16,7 @@ use Rattle.model.specs.declared.Call.the-variants.{Open, Enter, Back, As
 use Rattle.model.specs.declared.Figures.{Figures}
 use Rattle.model.specs.declared.Answer.{Answer}
 use Rattle.model.specs.Sizes.{mostRecords}
-use Rattle.model.specs.Stations.{Station, unopened, opened, isCredit, isLevel, isContinuous, within, validPlan, allWords, entryArguments}
+use Rattle.model.specs.Stations.{Station, unopened, opened, isCredit, isLevel, isContinuous, validPlan, allWords, entryArguments}
 use Rattle.model.specs.Figuring.{sampleAsked, verdictOn, acceptedBy, stepped, figuresOf}
 use Rattle.model.specs.Records.{recordOf}
 

@@ -3,7 +3,7 @@ use Prim.Native.Nat.{ℕ, _^_}
 use mathlib.Core.Bool.{Bool, true, cond, _&&_}
 use mathlib.Core.List.{List, [], _∷_}
 use lib.Dec.{eqb, leb, ltb}
-use Rattle.plans.specs.Limits.{largestAoql, verificationLevels, largestClearance, largestInterval}
+use Rattle.plans.specs.Limits.{largestAoql, verificationLevels, largestClearance, largestInterval, within}
 use Rattle.model.specs.declared.Plan.{Plan}
 use Rattle.model.specs.declared.Entry.{Entry}
 use Rattle.model.specs.declared.Entry.the-variants.{Lot, Run, Block, Stop}
@@ -27,9 +27,6 @@ isContinuous p = eqb (p .kind) 3
 -- option 1: all of a wrong credit lot is heard; reduced is permitted to a level stream
 unfoldable pub hasOption : Plan → Bool
 hasOption p = eqb (p .option) 1
-
-unfoldable pub within : ℕ → ℕ → ℕ → Bool
-within low high n = leb low n && leb n high
 
 -- "Calls", Open: what 5 leaves. The ranges of A and B by kind; option 0 or 1, in kind 3 only 0
 unfoldable pub validPlan : Plan → Bool

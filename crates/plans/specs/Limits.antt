@@ -1,8 +1,14 @@
--- The ranges that paper 01, "Calls", sets to plans and entries, each under the refusal that keeps to it. Four exported functions of this
--- crate ask for more, each for what a refusal leaves: a run fits the clearance number (14), the detection heard lies in its block (15),
--- no more are wrong than the lot has (13), and a level's two counts are below 255, since at most 128 records stand (9). Assumes nothing.
+-- What a range is, and the ranges that paper 01, "Calls", sets to plans and entries, each under the refusal that keeps to it. Four
+-- exported functions of this crate ask for more, each for what a refusal leaves: a run fits the clearance number (14), the detection heard
+-- lies in its block (15), no more are wrong than the lot has (13), and a level's two counts are below 255, since at most 128 records stand
+-- (9). Assumes nothing.
 use Prim.Native.Nat.{ℕ, _*_}
-use mathlib.Core.Bool.{Bool, cond}
+use mathlib.Core.Bool.{Bool, cond, _&&_}
+use lib.Dec.{leb}
+
+-- a number from low to high
+unfoldable pub within : ℕ → ℕ → ℕ → Bool
+within low high n = leb low n && leb n high
 
 -- 5: the AOQL A of a credit plan, in millionths
 abbrev pub largestAoql : ℕ

@@ -1,4 +1,7 @@
-// The ranges that paper 01 sets, once for all code; specs/Limits.antt has them for the definitions, with the refusal of each.
+// What a range is, and the ranges that paper 01 sets, once for all code; specs/Limits.antt has them for the definitions, with the refusal of each.
+ghost use mathlib.Core.Path.{_≡_};
+ghost use Rattle.plans.specs.Limits.{within as isWithin};
+
 pub const LARGEST_LOT: u32 = 1000000;
 
 pub const LEAST_LOT: u32 = 1;
@@ -20,3 +23,13 @@ pub const LONGEST_RUN: u32 = 10000;
 
 // In days.
 pub const LONGEST_STOP: u32 = 255;
+
+// Whether n is from low to high.
+pub fn within(low: u32, high: u32, n: u32) -> bool
+    ensures { λ r. ⌜ r ≡ isWithin low high n ⌝ }
+{
+    if n < low {
+        return false;
+    }
+    n <= high
+}

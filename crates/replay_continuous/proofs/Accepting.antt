@@ -5,11 +5,11 @@ use mathlib.Core.Bool.{Bool, true, false, cond, not, _&&_, _||_, or-true}
 use native.Mathlib.Omega.{arith}
 use lib.Dec.{eqb, ltb, leb}
 use borrow.Author.Tests.{eq-eqb, ne-eqb, leb-true, leb-false, ltb-true, ltb-false, lt-ltb, le-ltb}
-use Rattle.plans.specs.Limits.{largestClearance}
+use Rattle.plans.specs.Limits.{largestClearance, within}
 use Rattle.plans.specs.Continuous.{screening, sampling, isSampling}
 use Rattle.model.specs.declared.Plan.{Plan}
 use Rattle.model.specs.declared.Entry.the-variants.{Run, Block}
-use Rattle.model.specs.Stations.{isContinuous, within}
+use Rattle.model.specs.Stations.{isContinuous}
 use Rattle.model.specs.Records.{noRecording}
 use Rattle.model.specs.Calls.{firstOf, ruleRefusals, isFull, allows}
 use Rattle.replay_continuous.specs.declared.Place.{Place}

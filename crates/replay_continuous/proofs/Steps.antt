@@ -8,7 +8,7 @@ use native.Mathlib.Omega.{arith}
 use lib.Dec.{eqb}
 use borrow.Author.Tests.{eqb-true, eqb-false, not-true, not-false}
 use Rattle.little.specs.Little.{AreBytes}
-use Rattle.plans.specs.Limits.{largestClearance, largestInterval}
+use Rattle.plans.specs.Limits.{largestClearance, largestInterval, within}
 use Rattle.plans.specs.declared.continuous.Continuous.{Continuous}
 use Rattle.plans.specs.declared.continuous.Block.{Block as Given}
 use Rattle.plans.specs.Continuous.{afterRun, afterBlock, afterStop}
@@ -16,7 +16,7 @@ use Rattle.model.specs.declared.Plan.{Plan}
 use Rattle.model.specs.declared.Figures.{Figures}
 use Rattle.model.specs.declared.Entry.{Entry}
 use Rattle.model.specs.declared.Entry.the-variants.{Run, Block, Stop}
-use Rattle.model.specs.Stations.{isLevel, isContinuous, within}
+use Rattle.model.specs.Stations.{isLevel, isContinuous}
 use Rattle.model.specs.Figuring.{noLevel, creditStep, levelStep, continuousStep, acceptedBy, isLot, stepped}
 use Rattle.model.specs.Calls.{isDiscontinued, allows}
 use Rattle.model.proofs.Allowed.{ContinuousPlan, continuous-plan, allowed-run}

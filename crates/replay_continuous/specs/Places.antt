@@ -8,7 +8,7 @@ use Rattle.plans.specs.declared.continuous.Continuous.{Continuous}
 use Rattle.plans.specs.Continuous.{screening, sampling, isSampling}
 use Rattle.model.specs.declared.Plan.{Plan}
 use Rattle.model.specs.declared.Figures.{Figures}
-use Rattle.model.specs.Stations.{within}
+use Rattle.plans.specs.Limits.{within}
 use Rattle.model.specs.Figuring.{noLevel}
 use Rattle.replaying.specs.declared.Entered.{Entered}
 use Rattle.model.specs.declared.Record.{Record}

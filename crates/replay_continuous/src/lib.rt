@@ -37,8 +37,8 @@ use plans::continuous;
 use plans::continuous::Continuous;
 use plans::credit::Credit;
 use plans::level::LevelState;
+use plans::limits;
 use replaying::Entered;
-use rules::plan;
 use rules::refusing;
 
 // What an entry of a continuous stream can change: what is left to be screened, the tail, and how many are accepted.
@@ -238,7 +238,7 @@ fn fits_run(left: u32, right: u32, wrong: bool) -> bool
     if wrong {
         return right < left;
     }
-    plan::within(1, left, right)
+    limits::within(1, left, right)
 }
 
 // A block of which one detection was heard.

@@ -6,7 +6,7 @@ use native.Mathlib.Omega.{arith}
 use lib.Dec.{eqb}
 use borrow.Author.Needs.{needs}
 use borrow.Author.Tests.{eqb-true, eqb-false, eq-eqb, ne-eqb, le-leb, not-true, not-false}
-use Rattle.model.specs.Stations.{within}
+use Rattle.plans.specs.Limits.{within}
 use Rattle.model.specs.declared.Record.{Record}
 use Rattle.model.specs.Records.{lotKind, stopKind}
 use Rattle.model.proofs.Booleans.{both-true, within-of}

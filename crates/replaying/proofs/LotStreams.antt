@@ -5,7 +5,7 @@ use mathlib.Core.Bool.{Bool, true, false, not, _&&_}
 use native.Mathlib.Nat.{add-zero}
 use lib.Dec.{eqb}
 use borrow.Author.Tests.{eqb-true, eq-eqb}
-use Rattle.plans.specs.Limits.{largestLot}
+use Rattle.plans.specs.Limits.{largestLot, within}
 use Rattle.plans.specs.Verdicts.{acceptedOf}
 use Rattle.plans.specs.declared.level.LevelState.{LevelState}
 use Rattle.model.specs.declared.Plan.{Plan}
@@ -13,7 +13,7 @@ use Rattle.model.specs.declared.Entry.the-variants.{Lot, Stop}
 use Rattle.model.specs.declared.Figures.{Figures}
 use Rattle.model.specs.declared.Record.{Record}
 use Rattle.model.specs.declared.Recording.{Recording}
-use Rattle.model.specs.Stations.{isContinuous, within}
+use Rattle.model.specs.Stations.{isContinuous}
 use Rattle.model.specs.Figuring.{verdictOn, acceptedBy, creditStep, levelStep, continuousStep, isLot, labelOf, stepped}
 use Rattle.model.specs.Records.{lotKind}
 use Rattle.model.proofs.Booleans.{both-true, never-both, within-of}

@@ -5,7 +5,7 @@ use mathlib.Core.Bool.{Bool, true, false, cond, not, _&&_, _||_, or-true, and-tr
 use native.Mathlib.Omega.{arith}
 use lib.Dec.{eqb, ltb, leb}
 use borrow.Author.Tests.{eqb-true, eqb-false, eq-eqb, ne-eqb, lt-leb, leb-true, leb-false, lt-ltb, le-ltb}
-use Rattle.plans.specs.Limits.{longestStop}
+use Rattle.plans.specs.Limits.{longestStop, within}
 use Rattle.model.specs.declared.Plan.{Plan}
 use Rattle.model.specs.declared.Entry.{Entry}
 use Rattle.model.specs.declared.Entry.the-variants.{Lot, Run, Block, Stop}
@@ -13,7 +13,7 @@ use Rattle.model.specs.declared.Figures.{Figures}
 use Rattle.model.specs.declared.Record.{Record}
 use Rattle.model.specs.declared.Recording.{Recording}
 use Rattle.model.specs.Sizes.{mostRecords}
-use Rattle.model.specs.Stations.{isContinuous, within}
+use Rattle.model.specs.Stations.{isContinuous}
 use Rattle.model.specs.Figuring.{sampleAsked, verdictOn, creditStep, levelStep, continuousStep, acceptedBy, isLot, labelOf, stepped}
 use Rattle.model.specs.Records.{noRecording, lotKind, runKind, blockKind, stopKind, recordOf, entryOf}
 use Rattle.model.specs.Calls.{firstOf, ruleRefusals, isDiscontinued, isFull, sameLabel, sizeInRange, countsAgree, allows, bringsRecording, lacksRecording, accepts}

@@ -13,7 +13,8 @@ use Rattle.model.specs.declared.Figures.{Figures}
 use Rattle.model.specs.declared.Record.{Record}
 use Rattle.model.specs.Calls.{allows, accepts, admissible}
 use Rattle.model.specs.Sizes.{recordLength, headerLength, mostRecords, areaLength}
-use Rattle.model.specs.Stations.{validPlan, within}
+use Rattle.model.specs.Stations.{validPlan}
+use Rattle.plans.specs.Limits.{within}
 use Rattle.model.specs.Figuring.{sampleAsked, started, stepped, figuresOf}
 use Rattle.model.specs.Records.{noRecording, lotKind, runKind, blockKind, stopKind, recordIn, entryOf}
 use Rattle.model.specs.Area.{entriesIn}

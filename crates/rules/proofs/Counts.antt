@@ -5,7 +5,7 @@ use mathlib.Core.Bool.{Bool, true, false, not, _||_}
 use native.Mathlib.Omega.{arith}
 use lib.Dec.{eqb, leb}
 use borrow.Author.Tests.{eqb-true, leb-true, not-false}
-use Rattle.plans.specs.Limits.{largestLot, largestCredit}
+use Rattle.plans.specs.Limits.{largestLot, largestCredit, within}
 use Rattle.plans.specs.Credit.{creditVerdict}
 use Rattle.plans.specs.Verdicts.{lotHeard, lotWithheld, levelVerdict}
 use Rattle.plans.specs.Tables.{levelSample}
@@ -15,7 +15,7 @@ use Rattle.model.specs.declared.Plan.{Plan}
 use Rattle.model.specs.declared.Figures.{Figures}
 use Rattle.model.specs.FigureBounds.{FiguresWithin}
 use Rattle.model.specs.Sizes.{mostRecords}
-use Rattle.model.specs.Stations.{isCredit, hasOption, within}
+use Rattle.model.specs.Stations.{isCredit, hasOption}
 use Rattle.model.specs.Figuring.{sampleAsked, verdictOn}
 use Rattle.model.specs.Calls.{countsAgree, sizeInRange}
 use Rattle.model.proofs.Booleans.{both-true, within-of, never-both}

@@ -5,13 +5,12 @@ use mathlib.Core.Path.{_≡_}
 use mathlib.Core.Bool.{Bool, cond, not, _&&_}
 use mathlib.Core.List.{List, [], _∷_}
 use lib.Dec.{eqb, leb}
-use Rattle.plans.specs.Limits.{largestLot, longestStop}
+use Rattle.plans.specs.Limits.{largestLot, longestStop, within}
 use Rattle.model.specs.declared.Plan.{Plan}
 use Rattle.model.specs.declared.Entry.{Entry}
 use Rattle.model.specs.declared.Entry.the-variants.{Lot, Run, Block, Stop}
 use Rattle.model.specs.declared.Figures.{Figures}
 use Rattle.model.specs.declared.Recording.{Recording}
-use Rattle.model.specs.Stations.{within}
 use Rattle.model.specs.Calls.{Refusal, firstOf, sameLabel, ruleRefusals}
 
 -- a list of refusals without the last

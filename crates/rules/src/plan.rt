@@ -1,9 +1,9 @@
 // Plans: paper 01, "Calls", Open.
 ghost use mathlib.Core.Path.{_≡_};
-ghost use Rattle.model.specs.Stations.{validPlan, within as isWithin};
+ghost use Rattle.model.specs.Stations.{validPlan};
 ghost use mathlib.Core.Bool.{_&&_};
 ghost use lib.Dec.{eqb, leb};
-ghost use Rattle.plans.specs.Limits.{largestClearance, largestInterval};
+ghost use Rattle.plans.specs.Limits.{within, largestClearance, largestInterval};
 ghost use Rattle.model.specs.Figuring.{started as startedFigures, withLevel};
 use model::Figures;
 use model::Plan;
@@ -50,21 +50,11 @@ pub fn started(plan: Plan) -> Figures
     })
 }
 
-// Whether n is from low to high.
-pub fn within(low: u32, high: u32, n: u32) -> bool
-    ensures { λ r. ⌜ r ≡ isWithin low high n ⌝ }
-{
-    if n < low {
-        return false;
-    }
-    n <= high
-}
-
 // What refusal 5 leaves of a plan for lots, whose A is at most so large.
 fn is_for_lots(plan: Plan, most: u32) -> bool
-    ensures { λ r. ⌜ r ≡ isWithin 1 most (plan .a) && eqb (plan .b) 0 && leb (plan .option) 1 ⌝ }
+    ensures { λ r. ⌜ r ≡ within 1 most (plan .a) && eqb (plan .b) 0 && leb (plan .option) 1 ⌝ }
 {
-    if !within(1, most, plan.a) {
+    if !limits::within(1, most, plan.a) {
         return false;
     }
     if plan.b != 0 {
@@ -75,12 +65,12 @@ fn is_for_lots(plan: Plan, most: u32) -> bool
 
 // What refusal 5 leaves of a continuous plan.
 fn is_for_blocks(plan: Plan) -> bool
-    ensures { λ r. ⌜ r ≡ isWithin 1 largestClearance (plan .a) && isWithin 2 largestInterval (plan .b) && eqb (plan .option) 0 ⌝ }
+    ensures { λ r. ⌜ r ≡ within 1 largestClearance (plan .a) && within 2 largestInterval (plan .b) && eqb (plan .option) 0 ⌝ }
 {
-    if !within(1, limits::LARGEST_CLEARANCE, plan.a) {
+    if !limits::within(1, limits::LARGEST_CLEARANCE, plan.a) {
         return false;
     }
-    if !within(2, limits::LARGEST_INTERVAL, plan.b) {
+    if !limits::within(2, limits::LARGEST_INTERVAL, plan.b) {
         return false;
     }
     plan.option == 0

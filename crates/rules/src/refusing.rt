@@ -5,11 +5,11 @@
 ghost use mathlib.Core.Path.{_≡_};
 ghost use mathlib.Core.Bool.{not, _&&_, _||_};
 ghost use Prim.Native.Nat.{_+_, _-_, _≤_};
-ghost use Rattle.plans.specs.Limits.{largestLot};
+ghost use Rattle.plans.specs.Limits.{largestLot, within};
 ghost use Rattle.plans.specs.Verdicts.{lotHeard, lotWithheld};
 ghost use lib.Dec.{T, eqb};
 ghost use Rattle.model.specs.Sizes.{mostRecords};
-ghost use Rattle.model.specs.Stations.{validPlan, within, isLevel};
+ghost use Rattle.model.specs.Stations.{validPlan, isLevel};
 ghost use Rattle.model.specs.Calls.{firstOf, askRefusals, isDiscontinued, sameLabel, sizeInRange, countsAgree};
 ghost use Rattle.model.specs.FigureBounds.{FiguresWithin};
 ghost use Rattle.rules.specs.Refusing.{LotUpToLast, RunUpToLast, BlockUpToLast, StopUpToLast, behindEarlier, mayFollow, isStop};
@@ -171,7 +171,7 @@ fn is_size(plan: Plan, size: LotSize) -> bool
 fn is_size_from(least: u32, size: LotSize) -> bool
     ensures { λ r. ⌜ r ≡ within least largestLot (size .0) ⌝ }
 {
-    plan::within(least, limits::LARGEST_LOT, size.0)
+    limits::within(least, limits::LARGEST_LOT, size.0)
 }
 
 // What 10 and 11 leave of a lot on a stream whose lots have at least so many detections.
@@ -188,7 +188,7 @@ pub fn may_follow(least: u32, above: u64, label: u32, size: LotSize) -> bool
 pub fn is_in_block(interval: u32, heard: u32) -> bool
     ensures { λ r. ⌜ r ≡ within 1 interval heard ⌝ }
 {
-    plan::within(1, interval, heard)
+    limits::within(1, interval, heard)
 }
 
 // What 15 leaves of a stop.
@@ -246,7 +246,7 @@ fn is_by_verdict(
     ensures { λ r. ⌜ r ≡ (not (eqb verdict lotHeard) || within wrong (size .0 - sample .0 + wrong) «wrong_in_all») && (not (eqb verdict lotWithheld) || eqb «wrong_in_all» wrong) ⌝ }
 {
     if verdict == verdict::HEARD {
-        return plan::within(wrong, size.0 - sample.0 + wrong, wrong_in_all);
+        return limits::within(wrong, size.0 - sample.0 + wrong, wrong_in_all);
     }
     if verdict == verdict::WITHHELD {
         return wrong_in_all == wrong;

@@ -1,6 +1,6 @@
 -- The code asks for the same two ranges as the definition.
 use mathlib.Core.Path.{refl}
-use Rattle.model.specs.Stations.{within}
+use Rattle.plans.specs.Limits.{within}
 use Rattle.frame_text.specs.Digits.{digit}
 use Rattle.frame_text.proofs.is_digit.Statement.{statement}
 use Rattle.frame_text.proofs.is_digit.Tie as tie

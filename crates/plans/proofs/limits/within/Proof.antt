@@ -1,8 +1,8 @@
 -- A conjunction of two comparisons, asked one after the other.
-use Rattle.model.specs.Stations.{within}
+use Rattle.plans.specs.Limits.{within}
 use borrow.Author.Tests.{le-leb, lt-leb}
-use Rattle.rules.proofs.plan.within.Statement.{statement}
-use Rattle.rules.proofs.plan.within.Tie as tie
+use Rattle.plans.proofs.limits.within.Statement.{statement}
+use Rattle.plans.proofs.limits.within.Tie as tie
 
 pub within-spec : {M : Type 1} → statement M
 unfolding within
