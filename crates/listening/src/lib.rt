@@ -78,31 +78,9 @@ pub fn lot(
 ) -> Answer
     ensures { λ r. ⌜ record { answer = r; store = now (store .exit) } ≡ onStore (now (store .entry)) (on stream (Enter (Lot label size sample wrong «wrong_in_all» recording))) ⌝ }
 {
-    enter_lot(
-        store,
-        stream,
-        label,
-        LotSize(size),
-        SampleSize(sample),
-        wrong,
-        wrong_in_all,
-        recording,
-    )
-}
-
-// The same with N and n as the types that keep them apart.
-fn enter_lot(
-    store: &mut [u8],
-    stream: u32,
-    label: u32,
-    size: LotSize,
-    sample: SampleSize,
-    wrong: u32,
-    wrong_in_all: u32,
-    recording: Recording,
-) -> Answer
-    ensures { λ r. ⌜ record { answer = r; store = now (store .exit) } ≡ onStore (now (store .entry)) (on stream (Enter (Lot label (size .0) (sample .0) wrong «wrong_in_all» recording))) ⌝ }
-{
+    // N and n as the types that keep them apart
+    let size = LotSize(size);
+    let sample = SampleSize(sample);
     let standing = look(store, stream, 0);
     if standing.refusal != 0 {
         return answering::refused(standing.refusal);

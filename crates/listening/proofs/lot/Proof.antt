@@ -1,8 +1,8 @@
 -- Refused by what is seen of the stream, by its own refusals up to the last of paper 01's, or by what comes behind; else entered.
 use Rattle.listening.proofs.Trying.{lots, lot-counted}
 use borrow.Author.Needs.{needs}
-use Rattle.listening.proofs.enter_lot.Statement.{statement}
-use Rattle.listening.proofs.enter_lot.Tie as tie
+use Rattle.listening.proofs.lot.Statement.{statement}
+use Rattle.listening.proofs.lot.Tie as tie
 
 lot-requires-2 : tie.Need-lot-requires-2
 lot-requires-2 c κs =
@@ -13,8 +13,8 @@ lot-requires-2 c κs =
     lot-counted _ _ _ _ _ _ _ _ _ _ _ _ (tried .enter-lot .ensures) (behind .behind-earlier .ensures) (c .before .if3 .left) (told .lot .ensures)
     (tried .before .if2 .left) (seen .before .before .look .ensures) (seen .if1 .left)
 
-pub enter-lot-spec : {M : Type 1} → statement M
-enter-lot-spec =
+pub lot-spec : {M : Type 1} → statement M
+lot-spec =
     tie.close
     (tie.spec (λ c κs. search needs) (λ c κs. search needs) (λ c. search needs) (λ c. search lots) (λ c κs. search lots) (λ c κs. search needs) (λ c. search needs)
     (λ c. search lots) (λ c κs. search lots) (λ c κs. search needs) (λ c κs. search needs) (λ c. search needs) (λ c. search lots) lot-requires-2 (λ c κs. search lots)
