@@ -6,15 +6,20 @@
  * none. A refused call gives three zeros and leaves every byte of the store as it was. Whatever the numbers and the store's
  * bytes are, a call ends and gives an answer; it allocates and prints nothing.
  *
+ * listening_judge alone takes no store: it judges a sample by its measurements, and has an answer of its own.
+ *
  * The duties of the caller are C's own:
  * - A pointer and its length are those of memory that is the caller's. No pointer is null, also where the length is 0. The
- *   store may lie at any address; calls and answers of listening_list are aligned as uint32_t is.
+ *   store may lie at any address; calls and answers of listening_list are aligned as uint32_t is, values of listening_judge as
+ *   int32_t is.
  * - The store, the calls and the answers of one listening_list do not overlap.
  * - While a call runs that may write, nothing else reads or writes that store, another stream of it included. While a call runs
- *   that takes a const store (ask, read, newest, newest_part), nothing writes it. Calls on different stores may run at the same
- *   time: the library has no state of its own, takes no lock, and keeps no pointer when a call has ended.
+ *   that takes a const store (ask, read, newest, newest_part), nothing writes it, and while listening_judge runs, nothing writes
+ *   the values. Calls on different stores may run at the same time: the library has no state of its own, takes no lock, and keeps
+ *   no pointer when a call has ended.
  *
  * Refusals. The first that applies is given: 1, 2, 3, 6 (not for open), then the call's own, in the order that its comment has.
+ * listening_judge has 18 and 19 alone.
  *    1 store_length is not 58,112; the store is not looked at
  *    2 the stream is above 15
  *    3 no calls could have left these bytes in the stream's area; other streams still answer
@@ -32,6 +37,8 @@
  *   15 a number out of range
  *   16 nothing to take back
  *   17 the recording number is 0
+ *   18 length, a measurement, a given limit, k or a given f out of range
+ *   19 no limit is given; lower is not below upper; f is given with one limit, or is lacking with two
  *
  * A lot, run or block carries the raw recording that it was heard on: recording is its number, which is not 0, and second is the
  * second of it at which the entry starts, which is free. Both stand in the entry's record, and go with it when it is taken back.
@@ -68,6 +75,17 @@ typedef struct {
     size_t offset;
     size_t length;
 } listening_part;
+
+/* What listening_judge gives; all zero and false where it is refused. */
+typedef struct {
+    uint32_t refusal;  /* 0, 18 or 19 */
+    uint32_t outside;  /* so many measurements lie outside the limits; a limit itself is inside */
+    int32_t to_upper;  /* n times the upper limit, less the sum; 0 where the limit is absent */
+    int32_t to_lower;  /* the sum, less n times the lower limit; 0 where the limit is absent */
+    bool none_outside; /* whether outside is 0 */
+    bool k_met;        /* by every limit that is given */
+    bool f_met;        /* true where f is absent */
+} listening_judgement;
 
 /*
  * Opens a stream, once. Kind 1 credit: a is the limit in millionths, 1 to 500,000; option 1: a lot with a wrong one is heard
@@ -150,6 +168,21 @@ listening_part listening_newest_part(const uint8_t *store, size_t store_length, 
  */
 bool listening_list(uint8_t *store, size_t store_length, const uint32_t *calls, size_t calls_length, uint32_t *answers,
                     size_t answers_length);
+
+/*
+ * Judges a sample by its measurements, with the k and F criteria of ISO 28594, 5.1.2.3.4: exactly, with no root and no rounding.
+ * values are the measurements, and length is how many there are (n, 2 to 100). They and the limits are whole numbers from -4,000
+ * to 4,000. k is in hundredths, 1 to 1,000, and f, the standard's F, in thousandths, 1 to 1,000. Each limit and f is given where
+ * the flag before it is true; what stands beside a false flag is not looked at. One limit or both are given, and f with both and
+ * only then.
+ *
+ * With the mean and the standard deviation s of the sample (n - 1 in its divisor), k is met where (upper - mean) / s and
+ * (mean - lower) / s are k or more, and f where s / (upper - lower) is f or less; equality meets. Where s is 0, k is met unless
+ * the mean is beyond a limit. A distance is negative where the mean is beyond its limit, and then k is not met. It gives no
+ * verdict: the standard accepts a lot where none_outside, k_met and f_met are all true. Refusals 18, 19.
+ */
+listening_judgement listening_judge(const int32_t *values, size_t length, bool has_lower, int32_t lower, bool has_upper, int32_t upper,
+                                    uint32_t k, bool has_f, uint32_t f);
 
 #ifdef __cplusplus
 }

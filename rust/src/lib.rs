@@ -3,7 +3,7 @@
 //! Each function is the proved call of the same name, and [`newest`] is two of them, `listening_newest` and `listening_newest_part`;
 //! `include/listening.h` says of each what it takes and gives and how it is refused. A store is 58,112 bytes, all zero when fresh. Bad
 //! input of any kind, a store of another length included, gets a refusal number and leaves the store as it was: no call panics, and
-//! none has a duty for its caller.
+//! none has a duty for its caller. [`judge`] takes no store: it judges a sample by its measurements.
 //!
 //! ```
 //! let mut store = vec![0; listening::STORE_LENGTH];
@@ -46,9 +46,29 @@ pub struct Answer {
     pub third: u32,
 }
 
-// The declarations of include/listening.h: a slice crosses as pointer and length.
+/// What [`judge`] gives; all zero and false where it is refused.
+#[repr(C)]
+#[derive(Clone, Copy, Debug, PartialEq, Eq)]
+pub struct Judgement {
+    /// Why the call was refused, 18 or 19; 0 where it was not.
+    pub refusal: u32,
+    /// So many measurements lie outside the limits; a limit itself is inside.
+    pub outside: u32,
+    /// n times the upper limit, less the sum of the measurements; 0 where the limit is absent.
+    pub to_upper: i32,
+    /// The sum of the measurements, less n times the lower limit; 0 where the limit is absent.
+    pub to_lower: i32,
+    /// Whether `outside` is 0.
+    pub none_outside: bool,
+    /// Whether every given limit meets the k criterion.
+    pub k_met: bool,
+    /// Whether the F criterion is met; true where F is absent.
+    pub f_met: bool,
+}
+
+// The declarations of include/listening.h: a slice crosses as pointer and length, an option as a flag and a number.
 mod c {
-    use super::Answer;
+    use super::{Answer, Judgement};
 
     #[repr(C)]
     pub struct Part {
@@ -102,6 +122,17 @@ mod c {
             answers: *mut u32,
             answers_length: usize,
         ) -> bool;
+        pub fn listening_judge(
+            values: *const i32,
+            length: usize,
+            has_lower: bool,
+            lower: i32,
+            has_upper: bool,
+            upper: i32,
+            k: u32,
+            has_f: bool,
+            f: u32,
+        ) -> Judgement;
     }
 }
 
@@ -214,6 +245,39 @@ pub fn list(store: &mut [u8], calls: &[u32], answers: &mut [u32]) -> bool {
             calls.len(),
             answers.as_mut_ptr(),
             answers.len(),
+        )
+    }
+}
+
+/// Judges a sample by its measurements, with the k and F criteria of ISO 28594, 5.1.2.3.4. There are 2 to 100 measurements, whole
+/// numbers from -4,000 to 4,000 as the limits are; `k` is 1 to 1,000 hundredths and `f`, the standard's F, 1 to 1,000 thousandths. One
+/// limit or both are given, and `f` with both and only then. It gives three answers and no verdict: the standard accepts a lot
+/// where each of them is true.
+///
+/// ```
+/// // Table D.3 of the standard: 82 to 98, k 1.18, F 0.370
+/// let judged = listening::judge(&[92, 87, 84, 96], Some(82), Some(98), 118, Some(370));
+/// assert_eq!((judged.refusal, judged.outside, judged.to_upper, judged.to_lower), (0, 0, 33, 31));
+/// assert!(judged.none_outside && judged.k_met && judged.f_met);
+///
+/// // a limit or F that is absent is None, and no number stands for it
+/// assert_eq!(listening::judge(&[92, 87, 84, 96], Some(82), Some(98), 118, None).refusal, 19);
+/// assert_eq!(listening::judge(&[92, 87, 84, 96], Some(82), Some(98), 118, Some(0)).refusal, 18);
+/// ```
+#[inline]
+pub fn judge(values: &[i32], lower: Option<i32>, upper: Option<i32>, k: u32, f: Option<u32>) -> Judgement {
+    // what stands beside a false flag is not looked at
+    unsafe {
+        c::listening_judge(
+            values.as_ptr(),
+            values.len(),
+            lower.is_some(),
+            lower.unwrap_or(0),
+            upper.is_some(),
+            upper.unwrap_or(0),
+            k,
+            f.is_some(),
+            f.unwrap_or(0),
         )
     }
 }

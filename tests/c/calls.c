@@ -1,7 +1,10 @@
 /*
- * Makes calls by include/listening.h on one store, for a case file's runner. A line of standard input is a word and numbers:
+ * Makes calls by include/listening.h, on one store where they are over one, for a case file's runner. A line of standard input is a word
+ * and numbers:
  *   call NUMBER STREAM ARGUMENTS  a call, as listening_list has it; its answer is printed as a line of numbers
  *   part STREAM COUNT             the newest records; printed are the part's offset, a colon, and its bytes as pairs of digits
+ *   judge LENGTH VALUES FLAG LOWER FLAG UPPER K FLAG F
+ *                                 a judgement, each flag 1 or 0; printed as a line of numbers, 1 for true
  *   put PLACE VALUE               writes that byte of the store and prints nothing
  * After the last line the store's bytes are printed as they are.
  */
@@ -27,6 +30,24 @@ static uint32_t number(void)
         stop_reading("a number is missing");
     }
     return value;
+}
+
+static int32_t signed_number(void)
+{
+    int32_t value;
+    if (scanf("%" SCNd32, &value) != 1) {
+        stop_reading("a number is missing");
+    }
+    return value;
+}
+
+static bool flag(void)
+{
+    uint32_t value = number();
+    if (value > 1) {
+        stop_reading("no flag");
+    }
+    return value == 1;
 }
 
 static void put_byte(void)
@@ -91,14 +112,38 @@ static void print_part(void)
     printf("\n");
 }
 
+static void print_judgement(void)
+{
+    static int32_t values[256];
+    uint32_t length = number();
+    if (length > sizeof values / sizeof values[0]) {
+        stop_reading("too many measurements");
+    }
+    for (size_t k = 0; k < length; k++) {
+        values[k] = signed_number();
+    }
+    bool has_lower = flag();
+    int32_t lower = signed_number();
+    bool has_upper = flag();
+    int32_t upper = signed_number();
+    uint32_t k = number();
+    bool has_f = flag();
+    uint32_t f = number();
+    listening_judgement is = listening_judge(values, length, has_lower, lower, has_upper, upper, k, has_f, f);
+    printf("%" PRIu32 " %" PRIu32 " %" PRId32 " %" PRId32 " %d %d %d\n", is.refusal, is.outside, is.to_upper, is.to_lower,
+           is.none_outside, is.k_met, is.f_met);
+}
+
 int main(void)
 {
-    char word[5];
-    while (scanf("%4s", word) == 1) {
+    char word[6];
+    while (scanf("%5s", word) == 1) {
         if (strcmp(word, "call") == 0) {
             make_call();
         } else if (strcmp(word, "part") == 0) {
             print_part();
+        } else if (strcmp(word, "judge") == 0) {
+            print_judgement();
         } else if (strcmp(word, "put") == 0) {
             put_byte();
         } else {

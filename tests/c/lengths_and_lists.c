@@ -1,7 +1,8 @@
 /*
  * What C alone shows of include/listening.h, beside the case files, which tests/c/calls.c runs: lengths that are not the store's, streams
- * that no frame can hold, the bytes around the store, the newest records in place, damaged bytes, and lists of calls. After each refused
- * call, and after Ask, Read and Newest, every byte must be as before. Prints each check that fails; the last line is the count.
+ * that no frame can hold, the bytes around the store, the newest records in place, damaged bytes, lists of calls, and judgements with
+ * numbers beside a flag that is false. After each refused call, and after Ask, Read and Newest, every byte must be as before, and after a
+ * judgement the measurements. Prints each check that fails; the last line is the count.
  */
 #include "listening.h"
 
@@ -197,6 +198,66 @@ static void lists(void)
     check("and makes no call", is_kept());
 }
 
+/* Table D.3's four measurements, with others around them that are out of range; values are not aligned as more than an int32_t. */
+static int32_t measured[] = {INT32_MIN, 92, 87, 84, 96, INT32_MAX};
+static int32_t *const values = measured + 1;
+static const int32_t as_measured[] = {INT32_MIN, 92, 87, 84, 96, INT32_MAX};
+
+static bool is_judged(listening_judgement is, listening_judgement expected)
+{
+    return is.refusal == expected.refusal && is.outside == expected.outside && is.to_upper == expected.to_upper &&
+           is.to_lower == expected.to_lower && is.none_outside == expected.none_outside && is.k_met == expected.k_met &&
+           is.f_met == expected.f_met && memcmp(measured, as_measured, sizeof measured) == 0;
+}
+
+static void judged(const char *what, listening_judgement is, int32_t to_upper, int32_t to_lower)
+{
+    const listening_judgement expected = {0, 0, to_upper, to_lower, true, true, true};
+    check(what, is_judged(is, expected));
+}
+
+static void not_judged(const char *what, listening_judgement is, uint32_t refusal)
+{
+    const listening_judgement expected = {.refusal = refusal};
+    check(what, is_judged(is, expected));
+}
+
+/* What stands beside a false flag is not looked at: out of range, the other limit itself, or a number that would not go with it. */
+static void flags(void)
+{
+    const int32_t limits[] = {INT32_MIN, -4001, -4000, 0, 98, 4000, 4001, INT32_MAX};
+    const uint32_t factors[] = {0, 1, 370, 1000, 1001, UINT32_MAX};
+    judged("both limits and F", listening_judge(values, 4, true, 82, true, 98, 118, true, 370), 33, 31);
+    for (size_t k = 0; k < COUNT(limits); k++) {
+        for (size_t j = 0; j < COUNT(factors); j++) {
+            judged("no lower limit", listening_judge(values, 4, false, limits[k], true, 98, 118, false, factors[j]), 33, 0);
+            judged("no upper limit", listening_judge(values, 4, true, 82, false, limits[k], 118, false, factors[j]), 0, 31);
+            not_judged("no limit", listening_judge(values, 4, false, limits[k], false, 98, 118, false, factors[j]), 19);
+            not_judged("no F", listening_judge(values, 4, true, 82, true, 98, 118, false, factors[j]), 19);
+        }
+        not_judged("F without a lower limit", listening_judge(values, 4, false, limits[k], true, 98, 118, true, 370), 19);
+        not_judged("F without an upper limit", listening_judge(values, 4, true, 82, false, limits[k], 118, true, 370), 19);
+    }
+    not_judged("a lower limit", listening_judge(values, 4, true, -4001, true, 98, 118, true, 370), 18);
+    not_judged("an upper limit", listening_judge(values, 4, true, 82, true, 4001, 118, true, 370), 18);
+    not_judged("an F", listening_judge(values, 4, true, 82, true, 98, 118, true, 0), 18);
+}
+
+/* The length says which measurements there are: not those around them, and none where it is 0. */
+static void lengths_of_samples(void)
+{
+    static int32_t many[65536 + 4];
+    not_judged("one before them", listening_judge(values - 1, 5, true, 82, true, 98, 118, true, 370), 18);
+    not_judged("one behind them", listening_judge(values, 5, true, 82, true, 98, 118, true, 370), 18);
+    not_judged("none", listening_judge(values, 0, true, 82, true, 98, 118, true, 370), 18);
+    not_judged("none, behind the last", listening_judge(measured + COUNT(measured), 0, true, 82, true, 98, 118, true, 370), 18);
+    judged("a hundred", listening_judge(many, 100, true, -1, true, 1, 118, true, 370), 100, 100);
+    const size_t lengths[] = {1, 101, 256 + 4, 65536 + 4};
+    for (size_t k = 0; k < COUNT(lengths); k++) {
+        not_judged("another length", listening_judge(many, lengths[k], true, -1, true, 1, 118, true, 370), 18);
+    }
+}
+
 /* The streams that were never opened, and the bytes before and after the store. */
 static void untouched(void)
 {
@@ -216,6 +277,8 @@ int main(void)
     wrong_length_or_stream();
     damaged_bytes();
     lists();
+    flags();
+    lengths_of_samples();
     untouched();
     printf("c: %d passed, %d failed\n", passed, failed);
     return failed > 0;

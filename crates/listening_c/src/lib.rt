@@ -1,5 +1,6 @@
 // The calls for C and Rust: include/listening.h declares them. Each is the call of the same name in `listening` (of `listening_newest`,
-// `newest_answer`), and promises the same: there is no duty for the caller beyond what the header says of pointers.
+// `newest_answer`), in `lists` or in `measuring`, and promises the same: there is no duty for the caller beyond what the header says of
+// pointers.
 ghost use mathlib.Core.Path.{_≡_};
 ghost use Rattle.model.specs.declared.Entry.the-variants.{Lot, Run, Block, Stop};
 ghost use Rattle.model.specs.declared.Call.the-variants.{Open, Enter, Back, Ask, Read, Newest};
@@ -7,6 +8,8 @@ ghost use Rattle.model.specs.Store.{onStore, newestPart};
 ghost use Rattle.model.specs.Claims.{on};
 ghost use Rattle.listening.specs.Handed.{planOf};
 ghost use Rattle.lists.specs.Lists.{Listed};
+ghost use Rattle.measuring.specs.Judging.{judgement, limitGiven, fGiven};
+use measuring::Judgement;
 use model::Answer;
 use model::Part;
 use model::Recording;
@@ -127,4 +130,27 @@ pub extern "C" fn listening_list(store: &mut [u8], calls: &[u32], answers: &mut 
     ensures { λ r. ⌜ Listed (now (store .entry)) (now (calls .entry)) (now (answers .entry)) r (now (store .exit)) (now (answers .exit)) ⌝ }
 {
     lists::list(store, calls, answers)
+}
+
+// C has no enum that holds a number, so a flag stands before each number that may be absent.
+#[no_mangle]
+pub extern "C" fn listening_judge(
+    values: &[i32],
+    has_lower: bool,
+    lower: i32,
+    has_upper: bool,
+    upper: i32,
+    k: u32,
+    has_f: bool,
+    f: u32,
+) -> Judgement
+    ensures { λ r. ⌜ r ≡ judgement (now (values .entry)) (limitGiven «has_lower» lower) (limitGiven «has_upper» upper) k (fGiven «has_f» f) ⌝ }
+{
+    measuring::judge(
+        values,
+        measuring::limit_of(has_lower, lower),
+        measuring::limit_of(has_upper, upper),
+        k,
+        measuring::f_of(has_f, f),
+    )
 }

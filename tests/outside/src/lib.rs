@@ -1,11 +1,12 @@
-//! What the tests and the benchmark share: a call of the library by its frame, the part that it hands back, where two sides differ,
-//! whether an implementation agrees with the reference, and what a program prints.
+//! What the tests and the benchmark share: a call of the library by its frame, the part that it hands back, its judgement of a sample,
+//! where two sides differ, whether an implementation agrees with the reference, and what a program prints.
 
 pub mod agreement;
 pub mod programs;
 
 use reference::{
-    Answer, Frame, Part, AREA, ARGUMENTS, ASK, BACK, BLOCK, LOT, NEWEST, OPEN, READ, RECORD, RUN, STOP, STORE, STREAMS,
+    Answer, Frame, Judgement, Part, Sample, AREA, ARGUMENTS, ASK, BACK, BLOCK, LOT, NEWEST, OPEN, READ, RECORD, RUN, STOP, STORE,
+    STREAMS,
 };
 
 // The wrapper's sizes are the papers'.
@@ -45,6 +46,20 @@ pub fn newest(store: &[u8], stream: u32, count: u32) -> (Answer, Part) {
         bytes: records.to_vec(),
     };
     (numbers(answer), part)
+}
+
+/// The library's judgement of this sample.
+pub fn judge(sample: &Sample) -> Judgement {
+    let is = listening::judge(&sample.values, sample.lower, sample.upper, sample.k, sample.f);
+    Judgement {
+        refusal: is.refusal,
+        outside: is.outside,
+        to_upper: is.to_upper,
+        to_lower: is.to_lower,
+        none_outside: is.none_outside,
+        k_met: is.k_met,
+        f_met: is.f_met,
+    }
 }
 
 /// The library hands back this part, with as many records as its answer says.

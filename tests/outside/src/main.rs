@@ -12,7 +12,9 @@ mod demand_three;
 mod forged_areas;
 mod frames_program;
 mod lists;
+mod measuring;
 mod newest;
+mod random_samples;
 mod reach;
 mod store_lengths;
 mod whole_lists;
@@ -51,7 +53,7 @@ pub struct Done {
 
 type Test = fn(&Setting) -> Result<Done, String>;
 
-const TESTS: [(&str, Test); 9] = [
+const TESTS: [(&str, Test); 10] = [
     ("store lengths", store_lengths::test),
     ("lists", lists::test),
     ("whole lists", whole_lists::test),
@@ -61,6 +63,7 @@ const TESTS: [(&str, Test); 9] = [
     ("damaged areas", damage::whole_areas),
     ("forged areas", forged_areas::test),
     ("frames program", frames_program::test),
+    ("measurements", measuring::test),
 ];
 
 fn main() -> ExitCode {

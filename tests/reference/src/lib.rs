@@ -1,8 +1,10 @@
-//! The reference: papers 01 and 02 (card 1) once more, written from the papers alone and from nothing of the proved crates. A stream is
-//! its plan and the list of its standing entries, and whatever is asked is worked out from that list anew: slow, and plain on purpose.
+//! The reference: papers 01 and 02 (cards 1 and 2) once more, written from the papers alone and from nothing of the proved crates. A
+//! stream is its plan and the list of its standing entries, and whatever is asked is worked out from that list anew: slow, and plain on
+//! purpose.
 //!
-//! Read `samples`, `station`, `calls`, `area`, in this order. `backward` has paper 01's backward rules, `frames` the program over
-//! standard input, `random`, `arguments` and `making` the random calls that the tests make.
+//! Read `samples`, `station`, `calls`, `area`, in this order. `measuring` is by itself: the judgement of a sample by its measurements,
+//! which is over no stream. `backward` has paper 01's backward rules, `frames` the program over standard input, `random`, `arguments` and
+//! `making` the random calls that the tests make.
 
 mod area;
 mod arguments;
@@ -10,6 +12,7 @@ mod backward;
 mod calls;
 mod frames;
 mod making;
+mod measuring;
 mod random;
 mod samples;
 mod station;
@@ -23,5 +26,6 @@ pub use backward::{backward_c, backward_credit, backward_phase, backward_tail, b
 pub use calls::{answer, call_of, entry_of, Answer, Call, Frame, ARGUMENTS, ASK, BACK, BLOCK, LOT, NEWEST, OPEN, READ, RUN, STOP};
 pub use frames::{answer_line, frame, frames_output, line, printed, DIGITS, NO_FRAME};
 pub use making::Caller;
+pub use measuring::{ill_matched, judge, out_of_range, Judgement, Moments, Sample};
 pub use random::Random;
 pub use station::{figures, Entry, Figures, Plan, Recording, Station, CONTINUOUS, CREDIT, FULL, LEVEL};

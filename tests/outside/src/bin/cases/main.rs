@@ -1,8 +1,8 @@
 //! The case files of tests/cases: calls as plain text, each with its answer (`notation` has all that a line can say). Every call is
 //! made through the static library, by the reference, through the C header and as a frame through the program, and each answer is
-//! compared with the file. Bytes are compared for the library and the reference, parts for these two and C, and at a case's end the
-//! whole store for the same three. A line that is no frame goes to the reference and the program. What follows a `put` is not for the
-//! program. Needs what tests/run builds.
+//! compared with the file. Bytes are compared for the library and the reference, parts and judgements for these two and C, and at a
+//! case's end the whole store for the same three. A line that is no frame goes to the reference and the program. What follows a `put` is
+//! not for the program. Needs what tests/run builds.
 //!
 //!     cases              runs every file of tests/cases
 //!     cases refused      runs every file of tests/cases_refused, each of which has to fail as its first line says

@@ -13,17 +13,23 @@
 //!     sound -> 1                 whether the stream's area is sound
 //!     part 1 -> 76: 04 01 00 ..  the part that call 9 hands back for this count: the byte of the store at which it starts, and its bytes,
 //!                                of which there may be none
+//!     judge 82 98 118 370: 92 87 84 96 -> 0 0 33 31 1 1 1
+//!                                a judgement by measurement: L, U, k in hundredths and F in thousandths, - for a limit or
+//!                                an F that is absent, and the measurements; the refusal, how many are outside, n U - sum, sum - n L, and 1
+//!                                or 0 for none outside, for k and for F
 //!     put 16 c8 00               writes these bytes into the stream's area, as no call does
 //!     frame 06ff -> ff           a line for the program, and the line that it prints; \r is a carriage return
 //!
-//! Words are parted by plain blanks, and a number has no sign and no leading zero. A line that is none of these is an error. So are a
-//! heading that stands twice, a heading or a stream that no line follows, a case that expects nothing, a line that is no frame after a
-//! `put`, since the program has no part in it there, and a file without a case.
+//! Words are parted by plain blanks, and a number has no leading zero and no sign, but for the minus of a measurement, a limit or a
+//! distance below 0. A line that is none of these is an error. So are a heading that stands twice, a heading or a stream that no line
+//! follows, a case that expects nothing, a line that is no frame after a `put`, since the program has no part in it there, and a file
+//! without a case.
 
 use crate::calls::call;
-use reference::{area_at, frame, Answer, Frame, Part, AREA, NO_FRAME, STREAMS};
+use reference::{area_at, frame, Answer, Frame, Judgement, Part, Sample, AREA, NO_FRAME, STREAMS};
 use std::fmt;
 use std::ops::Range;
+use std::str::FromStr;
 
 /// Steps that begin on a fresh store.
 pub struct Case {
@@ -53,6 +59,7 @@ pub enum Action {
     Sound(u32),
     /// The newest records of this stream, for this count.
     Part(u32, u32),
+    Judge(Sample),
     /// From this byte of the store on.
     Put(usize, Vec<u8>),
 }
@@ -64,6 +71,7 @@ pub enum Given {
     Bytes(Vec<u8>),
     Sound(bool),
     Part(Part),
+    Judged(Judgement),
 }
 
 impl fmt::Display for Given {
@@ -74,6 +82,11 @@ impl fmt::Display for Given {
             Given::Bytes(bytes) => write!(out, "{}", pairs(bytes)),
             Given::Sound(sound) => write!(out, "{}", u32::from(*sound)),
             Given::Part(Part { at, bytes }) => write!(out, "{}", format!("{at}: {}", pairs(bytes)).trim_end()),
+            Given::Judged(is) => {
+                let [none_outside, k, f] = [is.none_outside, is.k_met, is.f_met].map(u32::from);
+                let numbers = format!("{} {} {} {}", is.refusal, is.outside, is.to_upper, is.to_lower);
+                write!(out, "{numbers} {none_outside} {k} {f}")
+            }
         }
     }
 }
@@ -241,8 +254,9 @@ fn step(said: &str, stream: u32) -> Result<(Action, Option<Given>), String> {
         "frame" => (Action::Line(rest.replace("\\r", "\r").into_bytes()), printed(gives)?),
         "bytes" => area_bytes(rest, gives, stream)?,
         "sound" if words(rest).next().is_some() => return Err("sound takes no argument".into()),
-        "sound" => (Action::Sound(with_area(stream)?), soundness(gives)?),
+        "sound" => (Action::Sound(with_area(stream)?), Given::Sound(yes_or_no("sound", gives)?)),
         "part" => newest_part(rest, gives, stream)?,
+        "judge" => (Action::Judge(sample(rest)?), Given::Judged(judgement_in(gives)?)),
         _ => (Action::Call(call(name, stream, &numbers(rest)?)?), answer(gives)?),
     };
     Ok((action, Some(expected)))
@@ -280,8 +294,48 @@ fn newest_part(count: &str, gives: &str, stream: u32) -> Result<(Action, Given),
 pub fn part_in(text: &str) -> Result<Part, String> {
     let (at, pairs) = text.split_once(':').ok_or("a part is a place, ':' and bytes")?;
     Ok(Part {
-        at: number(at)? as usize,
+        at: number::<u32>(at)? as usize,
         bytes: byte_pairs(pairs)?,
+    })
+}
+
+fn sample(text: &str) -> Result<Sample, String> {
+    let (demands, values) = text
+        .split_once(':')
+        .ok_or("judge takes L, U, k and F, ':' and measurements")?;
+    let [lower, upper, k, f] = words(demands).collect::<Vec<_>>()[..] else {
+        return Err("judge takes L, U, k and F before its ':'".into());
+    };
+    Ok(Sample {
+        values: words(values).map(number).collect::<Result<_, _>>()?,
+        lower: given_number(lower)?,
+        upper: given_number(upper)?,
+        k: number(k)?,
+        f: given_number(f)?,
+    })
+}
+
+/// None where the number is absent.
+fn given_number<T: FromStr + ToString>(word: &str) -> Result<Option<T>, String> {
+    match word {
+        "-" => Ok(None),
+        _ => number(word).map(Some),
+    }
+}
+
+/// The judgement that is written so.
+pub fn judgement_in(text: &str) -> Result<Judgement, String> {
+    let [refusal, outside, to_upper, to_lower, none_outside, k, f] = words(text).collect::<Vec<_>>()[..] else {
+        return Err("a judgement is four numbers, and 1 or 0 three times".into());
+    };
+    Ok(Judgement {
+        refusal: number(refusal)?,
+        outside: number(outside)?,
+        to_upper: number(to_upper)?,
+        to_lower: number(to_lower)?,
+        none_outside: yes_or_no("none outside", none_outside)?,
+        k_met: yes_or_no("k", k)?,
+        f_met: yes_or_no("F", f)?,
     })
 }
 
@@ -292,11 +346,11 @@ fn answer(gives: &str) -> Result<Given, String> {
     }
 }
 
-fn soundness(gives: &str) -> Result<Given, String> {
-    match gives {
-        "0" => Ok(Given::Sound(false)),
-        "1" => Ok(Given::Sound(true)),
-        _ => Err(format!("sound is 1 or 0, not '{gives}'")),
+fn yes_or_no(what: &str, word: &str) -> Result<bool, String> {
+    match word {
+        "0" => Ok(false),
+        "1" => Ok(true),
+        _ => Err(format!("{what} is 1 or 0, not '{word}'")),
     }
 }
 
@@ -351,8 +405,8 @@ fn numbers(text: &str) -> Result<Vec<u32>, String> {
     words(text).map(number).collect()
 }
 
-fn number(word: &str) -> Result<u32, String> {
-    let number = word.parse().ok().filter(|number: &u32| number.to_string() == word);
+fn number<T: FromStr + ToString>(word: &str) -> Result<T, String> {
+    let number = word.parse().ok().filter(|number: &T| number.to_string() == word);
     number.ok_or(format!("'{}' is no plain decimal number of 32 bits", word.escape_debug()))
 }
 

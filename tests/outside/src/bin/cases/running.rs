@@ -80,10 +80,11 @@ fn run(case: &Case, calls: &mut [usize; WAYS.len()]) -> Result<(), String> {
     at(|| format!("'{}'", case.name), same_stores(&taken))
 }
 
-/// Of the lines that make a call or are given to the program, those in which a way had a part.
+/// Of the lines that make a call, judge a sample or are given to the program, those in which a way had a part.
 fn calls_of(case: &Case, taken: &Taken) -> usize {
     let given = case.steps.iter().zip(&taken.given);
-    let called = given.filter(|(step, given)| given.is_some() && matches!(step.action, Action::Call(_) | Action::Line(_)));
+    let is_call = |action: &Action| matches!(action, Action::Call(_) | Action::Line(_) | Action::Judge(_));
+    let called = given.filter(|(step, given)| given.is_some() && is_call(&step.action));
     called.count()
 }
 

@@ -100,12 +100,12 @@ fn named<'a>(cases: &'a [Case], name: &str) -> Result<&'a Case, String> {
 }
 
 /// Whether its calls are all on stream 0, and so can be made on another stream as well. A line that it gives to the program stays as
-/// it is; its `bytes`, `sound` and `part` lines are left out of the run.
+/// it is; its `bytes`, `sound`, `part` and `judge` lines are left out of the run.
 fn keeps_to_stream_0(case: &Case) -> bool {
     case.steps.iter().all(|step| match &step.action {
         Action::Call(frame) => frame.stream == 0,
         Action::Line(_) => false,
-        Action::Bytes(_) | Action::Sound(_) | Action::Part(..) | Action::Put(..) => true,
+        Action::Bytes(_) | Action::Sound(_) | Action::Part(..) | Action::Judge(_) | Action::Put(..) => true,
     })
 }
 

@@ -1,11 +1,11 @@
 //! The ways in which a case's steps are taken: the static library, by Rust and by C, the reference, and the program.
 
-use crate::notation::{answer_in, part_in, Action, Given, Step};
+use crate::notation::{answer_in, judgement_in, part_in, Action, Given, Step};
 use outside::programs::{printed_by, FRAMES};
-use outside::{make, newest, Make};
+use outside::{judge, make, newest, Make};
 use reference::{
-    answer_line, area_at, call_on_store, frame, line, newest_part_on_store, plain_frame, read_area, Answer, Frame, Part, READ,
-    STORE,
+    answer_line, area_at, call_on_store, frame, line, newest_part_on_store, plain_frame, read_area, Answer, Frame, Judgement, Part,
+    Sample, READ, STORE,
 };
 use std::io::Write;
 
@@ -51,6 +51,7 @@ struct Inside {
     print: fn(&mut [u8], &[u8]) -> Option<String>,
     is_sound: fn(&[u8], u32) -> bool,
     newest: fn(&[u8], u32, u32) -> Part,
+    judge: fn(&Sample) -> Judgement,
 }
 
 /// The library takes a line only as the call that it is.
@@ -59,6 +60,7 @@ const LIBRARY: Inside = Inside {
     print: |store, line| frame(line).map(|frame| answer_line(&make(store, &frame))),
     is_sound: |store, stream| is_sound(&make(&mut store.to_vec(), &reading(stream))),
     newest: |store, stream, count| newest(store, stream, count).1,
+    judge,
 };
 
 const REFERENCE: Inside = Inside {
@@ -66,6 +68,7 @@ const REFERENCE: Inside = Inside {
     print: |store, line| Some(reference::printed(store, line)),
     is_sound: |store, stream| read_area(&store[area_at(stream)]).is_some(),
     newest: newest_part_on_store,
+    judge: reference::judge,
 };
 
 impl Inside {
@@ -85,6 +88,7 @@ impl Inside {
             Action::Bytes(place) => Some(Given::Bytes(store[place.clone()].to_vec())),
             Action::Sound(stream) => Some(Given::Sound((self.is_sound)(store, *stream))),
             Action::Part(stream, count) => Some(Given::Part((self.newest)(store, *stream, *count))),
+            Action::Judge(sample) => Some(Given::Judged((self.judge)(sample))),
             Action::Put(at, bytes) => {
                 store[*at..*at + bytes.len()].copy_from_slice(bytes);
                 None
@@ -102,8 +106,9 @@ fn is_sound(answer: &Answer) -> bool {
     answer[0] != UNSOUND
 }
 
-/// A word and numbers are a line: a call with its numbers, a part with its stream and its count, and for each byte that is put its place
-/// and its value. Calls and parts are answered by a line each, and after the last line comes the store.
+/// A word and numbers are a line: a call with its numbers, a part with its stream and its count, a sample as listening_judge takes it,
+/// and for each byte that is put its place and its value. Calls, parts and samples are answered by a line each, and after the last line
+/// comes the store.
 fn through_c(steps: &[Step]) -> Result<Taken, String> {
     let (mut input, mut asked) = (Vec::new(), Vec::new());
     for (k, step) in steps.iter().enumerate() {
@@ -114,6 +119,9 @@ fn through_c(steps: &[Step]) -> Result<Taken, String> {
         } else if let Action::Part(stream, count) = &step.action {
             input.extend(numbers_line("part", &[*stream, *count]));
             asked.push(k);
+        } else if let Action::Judge(sample) = &step.action {
+            input.extend(numbers_line("judge", &sample_numbers(sample)));
+            asked.push(k);
         } else if let Some(frame) = call_in(&step.action) {
             input.extend(numbers_line("call", &frame.numbers()));
             asked.push(k);
@@ -122,12 +130,13 @@ fn through_c(steps: &[Step]) -> Result<Taken, String> {
     let mut output = printed_by(C_CALLS, |stdin| stdin.write_all(&input))?;
     let lines_end = output.len().checked_sub(STORE).ok_or("C printed no store")?;
     let store = output.split_off(lines_end);
-    let given = given_by(steps, &asked, &output, |action, line| {
-        if let Action::Part(..) = action {
-            return part_in(line).ok().map(Given::Part);
+    let given = given_by(steps, &asked, &output, |action, line| match action {
+        Action::Part(..) => part_in(line).ok().map(Given::Part),
+        Action::Judge(_) => judgement_in(line).ok().map(Given::Judged),
+        _ => {
+            let numbers: Option<Vec<u32>> = line.split(' ').map(|word| word.parse().ok()).collect();
+            numbers?.try_into().ok().map(|answer| given(action, answer))
         }
-        let numbers: Option<Vec<u32>> = line.split(' ').map(|word| word.parse().ok()).collect();
-        numbers?.try_into().ok().map(|answer| given(action, answer))
     })?;
     Ok(Taken {
         given,
@@ -135,9 +144,21 @@ fn through_c(steps: &[Step]) -> Result<Taken, String> {
     })
 }
 
-fn numbers_line(word: &str, numbers: &[u32]) -> Vec<u8> {
-    let words: Vec<String> = numbers.iter().map(u32::to_string).collect();
+fn numbers_line<T: ToString>(word: &str, numbers: &[T]) -> Vec<u8> {
+    let words: Vec<String> = numbers.iter().map(T::to_string).collect();
     format!("{word} {}\n", words.join(" ")).into_bytes()
+}
+
+/// The length and the measurements, the limits, k and F, each limit and F behind its flag; beside a flag that is 0 stands 0.
+fn sample_numbers(sample: &Sample) -> Vec<i64> {
+    let flagged = |number: Option<i64>| [number.is_some().into(), number.unwrap_or(0)];
+    let mut numbers = vec![sample.values.len() as i64];
+    numbers.extend(sample.values.iter().map(|value| i64::from(*value)));
+    numbers.extend(flagged(sample.lower.map(i64::from)));
+    numbers.extend(flagged(sample.upper.map(i64::from)));
+    numbers.push(sample.k.into());
+    numbers.extend(flagged(sample.f.map(i64::from)));
+    numbers
 }
 
 /// The call that a step makes of a way that has calls alone.
@@ -146,7 +167,7 @@ fn call_in(action: &Action) -> Option<Frame> {
         Action::Call(frame) => Some(*frame),
         Action::Line(line) => frame(line),
         Action::Sound(stream) => Some(reading(*stream)),
-        Action::Bytes(_) | Action::Part(..) | Action::Put(..) => None,
+        Action::Bytes(_) | Action::Part(..) | Action::Judge(_) | Action::Put(..) => None,
     }
 }
 
@@ -158,7 +179,7 @@ fn given(action: &Action, answer: Answer) -> Given {
     }
 }
 
-/// Nobody but its calls writes the program's store, so it has no part in what follows a `put`. It prints no records.
+/// Nobody but its calls writes the program's store, so it has no part in what follows a `put`. It prints no records, and judges no sample.
 fn through_program(steps: &[Step]) -> Result<Taken, String> {
     let (mut input, mut asked) = (Vec::new(), Vec::new());
     for (k, step) in steps.iter().enumerate() {
@@ -166,7 +187,7 @@ fn through_program(steps: &[Step]) -> Result<Taken, String> {
             Action::Call(frame) => line(frame).into_bytes(),
             Action::Line(text) => text.clone(),
             Action::Sound(stream) => line(&reading(*stream)).into_bytes(),
-            Action::Bytes(_) | Action::Part(..) => continue,
+            Action::Bytes(_) | Action::Part(..) | Action::Judge(_) => continue,
             Action::Put(..) => break,
         };
         input.extend([&text[..], b"\n"].concat());
