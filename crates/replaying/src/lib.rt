@@ -49,8 +49,10 @@ pub fn has_more(read: Record) -> bool
 pub fn has_recording(read: Record) -> bool
     ensures { λ r. ⌜ r ≡ not (unrecorded read) ⌝ }
 {
-    let recording = read.recording;
-    recording.number as u64 + recording.second as u64 * 4294967296 != 0
+    if read.recording.number != 0 {
+        return true;
+    }
+    read.recording.second != 0
 }
 
 // Is a record a lot's, with nothing wrong in the sample, nor in all that was heard? A lot's head is 1, and the two counts add only even numbers
