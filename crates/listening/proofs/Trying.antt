@@ -24,7 +24,7 @@ use Rattle.model.specs.Sizes.{mostRecords, startOf}
 use Rattle.model.specs.Stations.{isContinuous}
 use Rattle.model.specs.Figuring.{verdictOn, stepped}
 use Rattle.model.specs.Calls.{refused, gives, firstOf, ruleRefusals, bringsRecording, lacksRecording, entryRefusals, entryAnswer, lotFigure}
-use Rattle.model.specs.Records.{noRecording, runKind, blockKind, stopKind, recordBytes, withOne, lotRecord, recordOf}
+use Rattle.model.specs.Records.{noRecording, broughtBy, runKind, blockKind, stopKind, recordBytes, withOne, lotRecord, recordOf}
 use Rattle.model.specs.Store.{areaAt, onStore}
 use Rattle.model.specs.Claims.{on}
 use Rattle.model.proofs.Allowed.{AllowedBlock, allowed-lot, allowed-block, allowed-stop, passed-all, plan-range}
@@ -151,7 +151,7 @@ module _ (store : List ℕ) (stream : ℕ) (s : Standing) (label N n r : ℕ) (s
     module _ (d D : ℕ) (rec : Recording) (x : Entered) (made : x ≡ tried (s .plan) (s .figures) (askedLot (s .plan) (s .figures) label N d D))
         (last : ℕ) (behind : last ≡ behindEarlier (x .sound) 13 rec) where
       lot-behind : Behind store stream s (Lot label N n d D rec) x last
-      unfolding behindEarlier lacksRecording bringsRecording recordOf
+      unfolding behindEarlier lacksRecording bringsRecording broughtBy
       lot-behind =
           record {
             tried-so =
@@ -232,7 +232,7 @@ module _ (store : List ℕ) (stream : ℕ) (s : Standing) (h w r : ℕ) (seen : 
   module _ (rec : Recording) (x : Entered) (made : x ≡ tried (s .plan) (s .figures) (Run h w noRecording))
       (last : ℕ) (behind : last ≡ behindEarlier (x .sound) 14 rec) where
     run-behind : Behind store stream s (Run h w rec) x last
-    unfolding behindEarlier lacksRecording bringsRecording recordOf
+    unfolding behindEarlier lacksRecording bringsRecording broughtBy
     run-behind =
         record {
           tried-so = continuous-tried store stream s (Run h w) r seen known (run-said store stream s h w r seen known said) tt none rec x
@@ -278,7 +278,7 @@ module _ (store : List ℕ) (stream : ℕ) (s : Standing) (q w r : ℕ) (seen : 
   module _ (rec : Recording) (x : Entered) (made : x ≡ tried (s .plan) (s .figures) (Block q w noRecording))
       (last : ℕ) (behind : last ≡ behindEarlier (x .sound) 14 rec) where
     block-behind : Behind store stream s (Block q w rec) x last
-    unfolding behindEarlier lacksRecording bringsRecording recordOf
+    unfolding behindEarlier lacksRecording bringsRecording broughtBy
     block-behind =
         record {
           tried-so = continuous-tried store stream s (Block q w) r seen known (block-said store stream s q w r seen known said) tt none rec x

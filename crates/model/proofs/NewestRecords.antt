@@ -8,7 +8,7 @@ use native.Mathlib.Omega.{arith}
 use lib.Dec.{eqb, leb}
 use lib.ListN.{length, drop, take, length-take, length-drop}
 use lib.Seq.{take-at, drop-at, take-all}
-use borrow.Author.Tests.{eqb-true, leb-true, leb-false, eq-eqb, ne-eqb}
+use borrow.Author.Tests.{eqb-true, eqb-false, leb-true, leb-false, ne-eqb}
 use Rattle.little.specs.Little.{part}
 use Rattle.little.proofs.Laws.{part-part}
 use Rattle.model.specs.declared.Plan.{Plan}
@@ -21,7 +21,7 @@ use Rattle.model.specs.Stations.{unopened, opened}
 use Rattle.model.specs.Records.{recordBytes, recordOf}
 use Rattle.model.specs.Calls.{firstOf, refusals, refusalOf, refused, newestOf, answerOf, call}
 use Rattle.model.specs.Area.{zeros, recordsOf, areaOf, countIn, Reading, unsound, holds, reading, onArea}
-use Rattle.model.specs.Store.{areaAt, onStore, endingAtLast, noPart, newestPart, newestRecords}
+use Rattle.model.specs.Store.{StoreOutcome, areaAt, onStore, endingAtLast, noPart, newestPart, newestRecords}
 use Rattle.model.specs.Claims.{on, PartOfItsArea}
 use Rattle.model.proofs.Allowed.{count-within}
 use Rattle.model.proofs.AreaReading.{length-records, records-in, count-read, area-of-reading}
@@ -181,10 +181,20 @@ module _ (store : List ℕ) (stream n : ℕ) where
       let room = room-of a in
       rw (opened-part (a .sized) (a .known) (a .plan) (a .entries) (a .reads)) (omega arith, omega (arith, newest-within n (a .entries))))
 
-  part-whole : onStore store (on stream (Newest n)) .answer .refusal ≡ 0
-      → newestPart store stream n .length ≡ recordLength * onStore store (on stream (Newest n)) .answer .first
+  -- a refusal has zeros, and hands nothing back
+  part-whole : newestPart store stream n .length ≡ recordLength * onStore store (on stream (Newest n)) .answer .first
   unfolding newestPart
-  part-whole taken = rw (eq-eqb (onStore store (on stream (Newest n)) .answer .refusal) 0 taken)
+  part-whole = go (eqb (onStore store (on stream (Newest n)) .answer .refusal) 0) refl
+    where
+      answer : Answer
+      answer = onStore store (on stream (Newest n)) .answer
+
+      go : (b : Bool) → eqb (answer .refusal) 0 ≡ b
+          → cond b (endingAtLast stream (countIn (areaAt stream store)) (answer .first)) noPart .length ≡ recordLength * answer .first
+      go true taken = refl
+      go false shut =
+          let kept = keeps-to-its-area store (on stream (Newest n)) .refusal (eqb-false (answer .refusal) 0 shut) in
+          rw (ap (λ (o : StoreOutcome). o .answer .first) kept)
 
 -- another store of the same length with the same area hands back the same bytes
 same-records : (store other : List ℕ) (stream n : ℕ) → length other ≡ length store → areaAt stream other ≡ areaAt stream store
@@ -208,4 +218,5 @@ part-of-its-area store stream n =
       readsNoOther = λ other l same. same-records store other stream n l same;
       inside = part-inside store stream n;
       whole = part-whole store stream n;
+      fits = part-fits store stream n;
     }

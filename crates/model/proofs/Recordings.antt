@@ -17,7 +17,7 @@ use Rattle.model.specs.declared.Entry.{Entry}
 use Rattle.model.specs.declared.Entry.the-variants.{Lot, Run, Block, Stop}
 use Rattle.model.specs.Sizes.{recordLength, headerLength, mostRecords, areaLength}
 use Rattle.model.specs.Stations.{Station, unopened, opened, entryArguments, allWords}
-use Rattle.model.specs.Records.{noRecording, recordingBytes, recordBytes, recordingIn, recordIn, recordOf}
+use Rattle.model.specs.Records.{noRecording, broughtBy, recordingBytes, recordBytes, recordingIn, recordIn, recordOf}
 use Rattle.model.specs.Calls.{bringsRecording, lacksRecording, admissible, admissibleStation}
 use Rattle.model.specs.Area.{zeros, recordsOf, areaOf}
 use Rattle.model.specs.Claims.{recordedAt, recordedIn, broughtAt, broughtIn, recordingAt, RecordingsStand}
@@ -33,9 +33,17 @@ zeros-bring : recordingOf (zeros recordLength) ≡ noRecording
 unfolding recordingOf recordIn recordingIn part value
 zeros-bring = refl
 
-entry-brings : (e : Entry) → T (allWords (entryArguments e)) → recordingOf (recordBytes (recordOf e)) ≡ recordOf e .recording
+-- a record has the recording that its entry brings
+recording-of : (e : Entry) → recordOf e .recording ≡ broughtBy e
+unfolding recordOf broughtBy
+recording-of (Lot label N n d D rec) = refl
+recording-of (Run h w rec) = refl
+recording-of (Block q w rec) = refl
+recording-of (Stop why days) = refl
+
+entry-brings : (e : Entry) → T (allWords (entryArguments e)) → recordingOf (recordBytes (recordOf e)) ≡ broughtBy e
 unfolding recordingOf recordIn recordingBytes recordBytes part bytes
-entry-brings e t = recording-read e t
+entry-brings e t = recording-read e t ∙ recording-of e
 
 -- the records of standing entries
 brought-before : (p : Plan) (es : List Entry) (rest : List ℕ) (i : ℕ) → T (admissible p es) → i < length es
@@ -52,8 +60,8 @@ brought-before p (e ∷ es) rest i t below =
     here : Recording → Type 0
     here rec = recordingOf (part (recordLength * i) recordLength (recordsOf es ++ (recordBytes (recordOf e) ++ rest))) ≡ rec
 
-    go : recordingOf (recordBytes (recordOf e)) ≡ recordOf e .recording → (i < length es → here (broughtAt es i)) → (b : Bool)
-        → eqb i (length es) ≡ b → here (cond b (recordOf e .recording) (broughtAt es i))
+    go : recordingOf (recordBytes (recordOf e)) ≡ broughtBy e → (i < length es → here (broughtAt es i)) → (b : Bool) → eqb i (length es) ≡ b
+        → here (cond b (broughtBy e) (broughtAt es i))
     go is before true k = rw (eqb-true i (length es) k, part-record e es rest) is
     go is before false k = before (omega (arith, eqb-false i (length es) k))
 
@@ -93,8 +101,8 @@ own-recording (opened p es) t i room =
         ap recordingOf (zeros-behind es i behind room) ∙ zeros-bring ∙ sym (none-behind es i behind)
 
 -- an entry was accepted with a number where it brings a recording, and a stop has none
-has-number : (e : Entry) → lacksRecording e ≡ false → not (eqb (recordOf e .recording .number) 0) ≡ bringsRecording e
-unfolding lacksRecording bringsRecording recordOf
+has-number : (e : Entry) → lacksRecording e ≡ false → not (eqb (broughtBy e .number) 0) ≡ bringsRecording e
+unfolding lacksRecording bringsRecording broughtBy
 has-number (Lot label N n d D rec) h = rw h
 has-number (Run h w rec) k = rw k
 has-number (Block q w rec) h = rw h
@@ -107,8 +115,8 @@ number-found p (e ∷ es) i t =
     let newest = newest-of p e es t in
     go (eqb i (length es)) (has-number e (newest .recorded)) (number-found p es i (newest .others))
   where
-    go : (b : Bool) → not (eqb (recordOf e .recording .number) 0) ≡ bringsRecording e → not (eqb (broughtAt es i .number) 0) ≡ recordedAt es i
-        → not (eqb (cond b (recordOf e .recording) (broughtAt es i) .number) 0) ≡ cond b (bringsRecording e) (recordedAt es i)
+    go : (b : Bool) → not (eqb (broughtBy e .number) 0) ≡ bringsRecording e → not (eqb (broughtAt es i .number) 0) ≡ recordedAt es i
+        → not (eqb (cond b (broughtBy e) (broughtAt es i) .number) 0) ≡ cond b (bringsRecording e) (recordedAt es i)
     go true is before = is
     go false is before = before
 

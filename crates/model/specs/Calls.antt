@@ -18,7 +18,7 @@ use Rattle.model.specs.declared.Answer.{Answer}
 use Rattle.model.specs.Sizes.{mostRecords}
 use Rattle.model.specs.Stations.{Station, unopened, opened, isCredit, isLevel, isContinuous, validPlan, allWords, entryArguments}
 use Rattle.model.specs.Figuring.{sampleAsked, verdictOn, acceptedBy, stepped, figuresOf}
-use Rattle.model.specs.Records.{recordOf}
+use Rattle.model.specs.Records.{broughtBy, recordOf}
 
 -- a refusal: it applies, and its number
 pub record Refusal : Type 0 where
@@ -101,7 +101,7 @@ bringsRecording (Stop why days) = false
 
 -- 17: the recording number is 0. A stop has no recording to bring
 unfoldable pub lacksRecording : Entry → Bool
-lacksRecording e = bringsRecording e && eqb (recordOf e .recording .number) 0
+lacksRecording e = bringsRecording e && eqb (broughtBy e .number) 0
 
 -- all refusals of such a call: paper 02, card 1, has 17 "last in its call's order"
 unfoldable pub entryRefusals : Plan → Figures → ℕ → Entry → List Refusal

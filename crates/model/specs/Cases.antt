@@ -351,15 +351,20 @@ levelArea =
     ∷ 1 ∷ 2 ∷ 3 ∷ 4 ∷ 128 ∷ 81 ∷ 1 ∷ 0
     ∷ []
 
+-- a run of recording 7, a block of recording 8, and a stop
+unfoldable pub threeStand : List Call
+threeStand =
+    start 3 0 10 4 ∷ Enter (Run 10 0 (from 7 60)) ∷ Enter (Block 1 0 (from 8 30)) ∷ stop 1 2 ∷ []
+
 unfoldable pub continuousArea : List ℕ
 continuousArea =
     3 ∷ 0 ∷ 3 ∷ 0 ∷ 10 ∷ 0 ∷ 0 ∷ 0 ∷ 4 ∷ 0 ∷ 0 ∷ 0 ∷ 0 ∷ 0 ∷ 0 ∷ 0
     ∷ 0 ∷ 0 ∷ 0 ∷ 0 ∷ 0 ∷ 0 ∷ 0 ∷ 0 ∷ 0 ∷ 0 ∷ 0 ∷ 0 ∷ 1 ∷ 0 ∷ 3 ∷ 0
     ∷ 14 ∷ 0 ∷ 0 ∷ 0 ∷ 0 ∷ 0 ∷ 0 ∷ 0 ∷ 0 ∷ 0 ∷ 0 ∷ 0 ∷ 0 ∷ 0 ∷ 0 ∷ 0
     ∷ 2 ∷ 0 ∷ 0 ∷ 0 ∷ 10 ∷ 0 ∷ 0 ∷ 0 ∷ 0 ∷ 0 ∷ 0 ∷ 0 ∷ 0 ∷ 0 ∷ 0 ∷ 0 ∷ 0 ∷ 0 ∷ 0 ∷ 0
-    ∷ 1 ∷ 0 ∷ 0 ∷ 0 ∷ 0 ∷ 0 ∷ 0 ∷ 0
+    ∷ 7 ∷ 0 ∷ 0 ∷ 0 ∷ 60 ∷ 0 ∷ 0 ∷ 0
     ∷ 3 ∷ 0 ∷ 0 ∷ 0 ∷ 1 ∷ 0 ∷ 0 ∷ 0 ∷ 0 ∷ 0 ∷ 0 ∷ 0 ∷ 0 ∷ 0 ∷ 0 ∷ 0 ∷ 0 ∷ 0 ∷ 0 ∷ 0
-    ∷ 1 ∷ 0 ∷ 0 ∷ 0 ∷ 0 ∷ 0 ∷ 0 ∷ 0
+    ∷ 8 ∷ 0 ∷ 0 ∷ 0 ∷ 30 ∷ 0 ∷ 0 ∷ 0
     ∷ 4 ∷ 1 ∷ 0 ∷ 0 ∷ 2 ∷ 0 ∷ 0 ∷ 0 ∷ 0 ∷ 0 ∷ 0 ∷ 0 ∷ 0 ∷ 0 ∷ 0 ∷ 0 ∷ 0 ∷ 0 ∷ 0 ∷ 0
     ∷ 0 ∷ 0 ∷ 0 ∷ 0 ∷ 0 ∷ 0 ∷ 0 ∷ 0
     ∷ []
@@ -368,13 +373,9 @@ abbrev pub BytesHold : Type 0
 BytesHold =
     AreaStarts (start 1 0 15000 0 ∷ lot 1 201 51 0 0 ∷ []) creditArea
     × AreaStarts (start 2 1 2 0 ∷ Enter (Lot 7 300 16 1 1 (from 67305985 86400)) ∷ []) levelArea
-    × AreaStarts (start 3 0 10 4 ∷ run 10 0 ∷ block 1 0 ∷ stop 1 2 ∷ []) continuousArea
+    × AreaStarts threeStand continuousArea
 
--- the part of the store with the newest records: a run of recording 7, a block of recording 8, and a stop, on stream 2
-unfoldable pub threeStand : List Call
-threeStand =
-    start 3 0 10 4 ∷ Enter (Run 10 0 (from 7 0)) ∷ Enter (Block 1 0 (from 8 30)) ∷ stop 1 2 ∷ []
-
+-- the part of the store with the newest records, on stream 2
 abbrev pub PartsHold : Type 0
 PartsHold =
     (newestPart (storeAfter fresh (onAll 2 threeStand)) 2 0 ≡ record { offset = 7396; length = 0 })

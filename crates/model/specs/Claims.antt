@@ -24,7 +24,7 @@ use Rattle.model.specs.Stations.{
   arguments,
   allWords,
 }
-use Rattle.model.specs.Records.{noRecording, recordIn, recordOf}
+use Rattle.model.specs.Records.{noRecording, broughtBy, recordIn}
 use Rattle.model.specs.Calls.{refusalOf, refused, bringsRecording, call}
 use Rattle.model.specs.Area.{zeros, recordsOf, areaOf, reading, holds, onArea}
 use Rattle.model.specs.Store.{Request, fresh, areaAt, onStore, storeAfter, answersTo, newestPart, newestRecords}
@@ -85,16 +85,17 @@ pub record KeepsToItsArea (store : List ℕ) (r : Request) : Type 0 where
       → (onStore other r .answer ≡ onStore store r .answer)
       × (areaAt (r .stream) (onStore other r .store) ≡ areaAt (r .stream) (onStore store r .store))
 
--- Paper 02, card 1: the part that is handed back is "of the area itself": behind the header of the stream's own area and inside it, as many
--- records as the call answers; another store of the same length with the same area there hands back the same bytes
+-- Paper 02, card 1: the part that is handed back is "of the area itself": behind the header of the stream's own area and inside it; another
+-- store of the same length with the same area there hands back the same bytes. It has as many records as the call answers, none where it
+-- is refused, and lies in the store, whatever the store's length
 pub record PartOfItsArea (store : List ℕ) (stream n : ℕ) : Type 0 where
   pub readsNoOther : (other : List ℕ) → length other ≡ length store → areaAt stream other ≡ areaAt stream store
       → newestRecords other stream n ≡ newestRecords store stream n
   pub inside : onStore store (on stream (Newest n)) .answer .refusal ≡ 0
       → (startOf stream + headerLength ≤ newestPart store stream n .offset)
       × (newestPart store stream n .offset + newestPart store stream n .length ≤ startOf stream + areaLength)
-  pub whole : onStore store (on stream (Newest n)) .answer .refusal ≡ 0
-      → newestPart store stream n .length ≡ recordLength * onStore store (on stream (Newest n)) .answer .first
+  pub whole : newestPart store stream n .length ≡ recordLength * onStore store (on stream (Newest n)) .answer .first
+  pub fits : newestPart store stream n .offset + newestPart store stream n .length ≤ length store
 
 -- The figures in an area are those worked out backwards from the standing entries; figures foreign to the plan are zero
 pub record FiguresBackward (p : Plan) (es : List Entry) (area : List ℕ) : Type 0 where
@@ -123,7 +124,7 @@ recordedIn (opened p es) i = recordedAt es i
 -- the recording of the entry that stands at a place; zeros where it is a stop, and where none stands
 unfoldable pub broughtAt : List Entry → ℕ → Recording
 broughtAt [] i = noRecording
-broughtAt (e ∷ es) i = cond (eqb i (length es)) (recordOf e .recording) (broughtAt es i)
+broughtAt (e ∷ es) i = cond (eqb i (length es)) (broughtBy e) (broughtAt es i)
 
 unfoldable pub broughtIn : Station → ℕ → Recording
 broughtIn unopened i = noRecording

@@ -15,7 +15,7 @@ use Rattle.model.specs.declared.Recording.{Recording}
 use Rattle.model.specs.Sizes.{mostRecords}
 use Rattle.model.specs.Stations.{isContinuous}
 use Rattle.model.specs.Figuring.{sampleAsked, verdictOn, creditStep, levelStep, continuousStep, acceptedBy, isLot, labelOf, stepped}
-use Rattle.model.specs.Records.{noRecording, lotKind, runKind, blockKind, stopKind, recordOf, entryOf}
+use Rattle.model.specs.Records.{noRecording, broughtBy, lotKind, runKind, blockKind, stopKind, entryOf}
 use Rattle.model.specs.Calls.{firstOf, ruleRefusals, isDiscontinued, isFull, sameLabel, sizeInRange, countsAgree, allows, bringsRecording, lacksRecording, accepts}
 use Rattle.model.proofs.Allowed.{allowed-lot, allowed-run, allowed-block, allowed-stop, accepted-parts}
 use Rattle.model.proofs.Booleans.{both-true, never-both}
@@ -191,7 +191,7 @@ module _ (p : Plan) (f : Figures) (r : Record) where
         go false = refl
 
     stop-alone : wellFormed r ≡ true → accepts p f 0 (entryOf p f r) ≡ true → holdsStop r ≡ true
-    unfolding entryOf lacksRecording bringsRecording recordOf
+    unfolding entryOf lacksRecording bringsRecording broughtBy
     stop-alone x y =
         by-kind x y (holdsStop r ≡ true)
         (λ k _. absurd (not-lacking x y (Lot (r .a) (r .b) (sampleAsked p f (r .b)) (r .c) (r .d) (r .recording)) (rw k) (rw none)))
@@ -217,7 +217,7 @@ module _ (p : Plan) (f : Figures) (r : Record) where
   module _ (recorded : r .recording .number ≡ 0 → ⊥) where
     -- a lot's, by its head
     pub lot-record : headOf r ≡ lotKind → entered p f 0 r ≡ tried p f (askedLot p f (r .a) (r .b) (r .c) (r .d))
-    unfolding askedLot headOf wellFormed entryOf lacksRecording bringsRecording recordOf
+    unfolding askedLot headOf wellFormed entryOf lacksRecording bringsRecording broughtBy
     lot-record head =
         let kind : r .kind ≡ lotKind = omega arith in
         let flag : r .flag ≡ 0 = omega arith in
@@ -228,14 +228,14 @@ module _ (p : Plan) (f : Figures) (r : Record) where
     -- and of a run and a block, with their flag
     module _ (kinds : r .kind < 256) (flags : r .flag < 256) (one : oneNumber r ≡ true) (w : ℕ) (small : w < 256) where
       pub run-record : headOf r ≡ flagged runKind w → entered p f 0 r ≡ tried p f (Run (r .a) w noRecording)
-      unfolding wellFormed entryOf lacksRecording bringsRecording recordOf
+      unfolding wellFormed entryOf lacksRecording bringsRecording broughtBy
       run-record head =
           let form = head-is r runKind w kinds flags (omega arith) small head in
           formed (Run (r .a) w (r .recording)) (rw (form .0, form .2) one) (rw (form .0, form .1)) (ne-eqb (r .recording .number) 0 recorded)
           ∙ run-unrecorded p f (r .recording) (r .a) w
 
       pub block-record : headOf r ≡ flagged blockKind w → entered p f 0 r ≡ tried p f (Block (r .a) w noRecording)
-      unfolding wellFormed entryOf lacksRecording bringsRecording recordOf
+      unfolding wellFormed entryOf lacksRecording bringsRecording broughtBy
       block-record head =
           let form = head-is r blockKind w kinds flags (omega arith) small head in
           formed (Block (r .a) w (r .recording)) (rw (form .0, form .2) one) (rw (form .0, form .1)) (ne-eqb (r .recording .number) 0 recorded)
