@@ -16,8 +16,8 @@ use mir.Syntax.{w32, w64}
 use mir.Val.{SFits, toZ}
 use mir.ValLaws.{toZ-ofZ, toZ-pos}
 use Rattle.measuring.specs.declared.samples.Sample.{Sample}
-use Rattle.measuring.specs.Fractions.{ratio, whole, minus}
-use Rattle.measuring.specs.Samples.{sumOf, total, squares, correctionFactor, correctedSquares, spread, sampleOf}
+use Rattle.measuring.specs.Fractions.{ratio, whole, minus, times}
+use Rattle.measuring.specs.Samples.{sumOf, total, squares, correctionFactor, correctedSquares, spread, sampleOf, variance}
 use Rattle.measuring.specs.Judging.{largestSample, largestLevel, areLevels}
 use Rattle.measuring.specs.Working.{Ranged, Measured}
 use Rattle.measuring.proofs.Sizes.{size-sum, size-product, times-one, square, sized, again, widened, widens}
@@ -85,6 +85,11 @@ never-negative xs = rw (spread-is xs) tt
 pub spread-line6 : (xs : List ℤ) → correctedSquares xs ≡ ratio (spread xs) (length xs)
 unfolding correctedSquares correctionFactor minus whole ratio spread
 spread-line6 xs = rw (times-one (total xs *ℤ total xs), *ℤ-comm (squares xs) (pos (length xs)), one-mul (length xs)) refl
+
+-- and the variance is that over n - 1
+pub variance-line7 : (xs : List ℤ) → variance (sampleOf xs) ≡ times (correctedSquares xs) (ratio (pos 1) (length xs - 1))
+unfolding variance sampleOf times ratio
+variance-line7 xs = rw (spread-line6 xs, times-one (spread xs)) refl
 
 -- how large the sums of levels in range are
 

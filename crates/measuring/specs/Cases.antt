@@ -60,7 +60,7 @@ pub record EdgesHold : Type 0 where
   pub onLimit : judgement fifties (Given (pos 50)) Absent 1000 NotApplicable ≡ gives 0 (pos 0) (pos 0) true true true
   pub onUpper : judgement fifties Absent (Given (pos 50)) 1000 NotApplicable ≡ gives 0 (pos 0) (pos 0) true true true
   pub beyond : judgement fifties (Given (pos 51)) Absent 1 NotApplicable ≡ gives 2 (pos 0) (negℤ (pos 2)) false false true
-  -- the mean lies far beyond the limit, and its square is large: k is not met
+  -- the mean lies far beyond the limit, and the square of the distance is large: k is not met
   pub farBeyond : judgement around (Given (pos 4000)) Absent 1 NotApplicable ≡ gives 3 (pos 0) (negℤ (pos 12000)) false false true
   -- of two limits the upper alone meets k 1.19, with 119 / 100; the lower has 118 / 100
   pub oneOfTwo : judgement around (Given (negℤ (pos 118))) (Given (pos 119)) 119 (Thousandths 500)

@@ -4,8 +4,8 @@ ghost use lib.IntN.{ℤ};
 ghost use Rattle.measuring.specs.Claims.{SpreadIs};
 ghost use Rattle.measuring.specs.Cases.{TablesHold, EdgesHold};
 
-// S is n times the corrected sum of squares, and never negative.
-pub fn spread_is_line_6()
+// S is n times the corrected sum of squares, and never negative; the variance is the corrected sum of squares over n - 1.
+pub fn spread_as_tabled()
     ensures { λ _. ⌜ ((xs : List ℤ) → SpreadIs xs) ⌝ }
 {}
 

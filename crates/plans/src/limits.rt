@@ -1,4 +1,5 @@
-// What a range is, and the ranges that paper 01 sets, once for all code; specs/Limits.antt has them for the definitions, with the refusal of each.
+// What a range is, and the ranges that paper 01 sets, once for all code; specs/Limits.antt has them for the definitions, with the refusal
+// of each.
 ghost use mathlib.Core.Path.{_≡_};
 ghost use Rattle.plans.specs.Limits.{within as isWithin};
 

@@ -1,7 +1,7 @@
 -- By the laws of Spread.antt.
-use Rattle.measuring.proofs.Spread.{spread-line6, never-negative}
-use Rattle.measuring.proofs.claims.spread_is_line_6.Statement.{statement}
-use Rattle.measuring.proofs.claims.spread_is_line_6.Tie as tie
+use Rattle.measuring.proofs.Spread.{spread-line6, variance-line7, never-negative}
+use Rattle.measuring.proofs.claims.spread_as_tabled.Statement.{statement}
+use Rattle.measuring.proofs.claims.spread_as_tabled.Tie as tie
 
-pub spread-is-line-6-spec : {M : Type 1} → statement M
-spread-is-line-6-spec = tie.close (tie.spec (λ c xs. record { line6 = spread-line6 xs; notNegative = never-negative xs }))
+pub spread-as-tabled-spec : {M : Type 1} → statement M
+spread-as-tabled-spec = tie.close (tie.spec (λ c xs. record { line6 = spread-line6 xs; line7 = variance-line7 xs; notNegative = never-negative xs }))
