@@ -16,7 +16,7 @@ use Rattle.frame_text.specs.Program.{LineOutcome, onFrame}
 use Rattle.frame_text.specs.Feeding.{Unfinished, lineRoom, afterBytes, printedBy}
 use Rattle.feeding.specs.declared.Fed.{Fed}
 
--- a line buffer of 61 bytes has an unfinished line in its first `have` bytes and zeros behind: no byte of an earlier line stays
+-- a line buffer has an unfinished line in its first `have` bytes and zeros behind: no byte of an earlier line stays
 pub record LineHeld (buffer : List ℕ) (have : ℕ) (line : List ℕ) : Type 0 where
   pub whole : buffer ≡ line ++ zeros (lineRoom - have)
   pub count : have ≡ length line

@@ -17,11 +17,11 @@ pub record Unfinished : Type 0 where
 unfoldable pub begun : Unfinished
 begun = record { store = fresh; line = [] }
 
--- 61 bytes: what is kept of a line at the most, which is one byte more than a frame has
+-- what is kept of a line at the most, which is one byte more than a frame has
 abbrev pub lineRoom : ℕ
 lineRoom = frameLength + 1
 
--- a line of more than 60 bytes is bad however it goes on: no more of it is kept
+-- a line with more bytes than a frame is bad however it goes on: no more of it is kept
 unfoldable pub kept : List ℕ → ℕ → List ℕ
 kept line b = cond (leb (length line) frameLength) (line ++ (b ∷ [])) line
 

@@ -41,7 +41,7 @@ unfoldable pub argumentsTo : List ℕ → ℕ → List ℕ
 argumentsTo line zero = []
 argumentsTo line (suc k) = argumentsTo line k ++ (argument line k ∷ [])
 
--- a line of exactly 60 digits is the frame that its numbers make; any other line is bad
+-- a line of exactly a frame's digits is the frame that its numbers make; any other line is bad
 unfoldable pub frameOf : List ℕ → Frame
 frameOf line =
     cond (eqb (length line) frameLength && allDigits line)

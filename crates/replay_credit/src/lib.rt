@@ -103,7 +103,7 @@ fn entered_as(figures: Figures, step: Step) -> Entered
     }
 }
 
-// The numbers are lent to `bring` here alone, so that no other function has a reference to them.
+// The numbers are lent to `bring`, the form that paper 01 names, here alone, so that no other function has a reference to them.
 fn brought(area: &[u8], plan: Plan, carried: Carried, at: usize) -> Outcome
     requires { ⌜ ReadAt (now area) at (OnCredit plan carried) ⌝ }
     ensures { λ r. ⌜ toldAs r ≡ entered plan (figuresIn carried) 0 (recordIn (part at recordLength (now (area .entry)))) ⌝ }

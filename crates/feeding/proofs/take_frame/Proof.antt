@@ -1,4 +1,4 @@
--- The three tests are those of `liesWhole`, one after the other: where one fails there is no frame, and behind the last the 60 bytes are tried.
+-- The three tests are those of `liesWhole`, one after the other: where one fails there is no frame, and behind the last the frame's bytes are tried.
 use Prim.Native.Nat.{_+_, _-_, _≤_, _<_}
 use mathlib.Core.Path.{_≡_}
 use native.Mathlib.Omega.{arith}
