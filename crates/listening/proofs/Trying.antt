@@ -23,8 +23,8 @@ use Rattle.model.specs.declared.Recording.{Recording}
 use Rattle.model.specs.Sizes.{mostRecords, startOf}
 use Rattle.model.specs.Stations.{isContinuous}
 use Rattle.model.specs.Figuring.{verdictOn, stepped}
-use Rattle.model.specs.Calls.{refused, gives, firstOf, ruleRefusals, bringsRecording, lacksRecording, entryRefusals, entryAnswer, lotFigure}
-use Rattle.model.specs.Records.{noRecording, broughtBy, runKind, blockKind, stopKind, recordBytes, withOne, lotRecord, recordOf}
+use Rattle.model.specs.Calls.{refused, gives, firstOf, ruleRefusals, bringsRecording, broughtBy, lacksRecording, entryRefusals, entryAnswer, lotFigure}
+use Rattle.model.specs.Records.{noRecording, runKind, blockKind, stopKind, recordBytes, withOne, lotRecord, recordOf}
 use Rattle.model.specs.Store.{areaAt, onStore}
 use Rattle.model.specs.Claims.{on}
 use Rattle.model.proofs.Allowed.{AllowedBlock, allowed-lot, allowed-block, allowed-stop, passed-all, plan-range}

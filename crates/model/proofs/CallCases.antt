@@ -38,7 +38,7 @@ use Rattle.model.specs.Figuring.{
   stepped,
   figuresOf,
 }
-use Rattle.model.specs.Records.{broughtBy, recordingBytes, recordBytes, recordingIn, recordIn, recordOf, entryOf}
+use Rattle.model.specs.Records.{recordingBytes, recordBytes, recordingIn, recordIn, recordOf, entryOf}
 use Rattle.model.specs.Calls.{
   firstOf,
   isDiscontinued,
@@ -47,6 +47,7 @@ use Rattle.model.specs.Calls.{
   countsAgree,
   ruleRefusals,
   bringsRecording,
+  broughtBy,
   lacksRecording,
   entryRefusals,
   accepts,
@@ -115,7 +116,7 @@ unfolding
     levelAfter moved judgedLot metStop screening sampling isSampling afterRun afterBlock afterStop bytes value part written
     isCredit isLevel isContinuous hasOption within validPlan entryArguments allWords
     noLevel started sampleAsked verdictOn acceptedBy creditStep levelStep continuousStep isLot labelOf stepped figuresOf
-    firstOf isDiscontinued isFull sizeInRange countsAgree ruleRefusals broughtBy bringsRecording lacksRecording entryRefusals accepts askRefusals refusals refusalOf lotFigure readFigure
+    firstOf isDiscontinued isFull sizeInRange countsAgree ruleRefusals bringsRecording broughtBy lacksRecording entryRefusals accepts askRefusals refusals refusalOf lotFigure readFigure
     entryAnswer newestKind newestOf answerOf withoutNewest changed call admissible admissibleStation
     recordingBytes recordBytes recordingIn recordIn recordOf entryOf headerOf recordsOf areaOf planIn countIn entriesIn stationIn sameBytes
     reading onArea fresh areaAt onStream onStore storeAfter answersTo newestPart newestRecords onAll callsOf answersOf

@@ -17,8 +17,8 @@ use Rattle.model.specs.declared.Entry.{Entry}
 use Rattle.model.specs.declared.Entry.the-variants.{Lot, Run, Block, Stop}
 use Rattle.model.specs.Sizes.{recordLength, headerLength, mostRecords, areaLength}
 use Rattle.model.specs.Stations.{Station, unopened, opened, entryArguments, allWords}
-use Rattle.model.specs.Records.{noRecording, broughtBy, recordingBytes, recordBytes, recordingIn, recordIn, recordOf}
-use Rattle.model.specs.Calls.{bringsRecording, lacksRecording, admissible, admissibleStation}
+use Rattle.model.specs.Records.{noRecording, recordingBytes, recordBytes, recordingIn, recordIn, recordOf}
+use Rattle.model.specs.Calls.{bringsRecording, broughtBy, lacksRecording, admissible, admissibleStation}
 use Rattle.model.specs.Area.{zeros, recordsOf, areaOf}
 use Rattle.model.specs.Claims.{recordedAt, recordedIn, broughtAt, broughtIn, recordingAt, RecordingsStand}
 use Rattle.model.proofs.Allowed.{newest-of, count-within}

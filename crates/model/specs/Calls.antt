@@ -13,12 +13,13 @@ use Rattle.model.specs.declared.Entry.{Entry}
 use Rattle.model.specs.declared.Entry.the-variants.{Lot, Run, Block, Stop}
 use Rattle.model.specs.declared.Call.{Call}
 use Rattle.model.specs.declared.Call.the-variants.{Open, Enter, Back, Ask, Read, Newest}
+use Rattle.model.specs.declared.Recording.{Recording}
 use Rattle.model.specs.declared.Figures.{Figures}
 use Rattle.model.specs.declared.Answer.{Answer}
 use Rattle.model.specs.Sizes.{mostRecords}
 use Rattle.model.specs.Stations.{Station, unopened, opened, isCredit, isLevel, isContinuous, validPlan, allWords, entryArguments}
 use Rattle.model.specs.Figuring.{sampleAsked, verdictOn, acceptedBy, stepped, figuresOf}
-use Rattle.model.specs.Records.{broughtBy, recordOf}
+use Rattle.model.specs.Records.{noRecording, recordOf}
 
 -- a refusal: it applies, and its number
 pub record Refusal : Type 0 where
@@ -98,6 +99,13 @@ bringsRecording (Lot label N n d D rec) = true
 bringsRecording (Run h w rec) = true
 bringsRecording (Block q w rec) = true
 bringsRecording (Stop why days) = false
+
+-- the recording that it brings, zeros where it is a stop
+unfoldable pub broughtBy : Entry → Recording
+broughtBy (Lot label N n d D rec) = rec
+broughtBy (Run h w rec) = rec
+broughtBy (Block q w rec) = rec
+broughtBy (Stop why days) = noRecording
 
 -- 17: the recording number is 0. A stop has no recording to bring
 unfoldable pub lacksRecording : Entry → Bool

@@ -24,8 +24,8 @@ use Rattle.model.specs.Stations.{
   arguments,
   allWords,
 }
-use Rattle.model.specs.Records.{noRecording, broughtBy, recordIn}
-use Rattle.model.specs.Calls.{refusalOf, refused, bringsRecording, call}
+use Rattle.model.specs.Records.{noRecording, recordIn}
+use Rattle.model.specs.Calls.{refusalOf, refused, bringsRecording, broughtBy, call}
 use Rattle.model.specs.Area.{zeros, recordsOf, areaOf, reading, holds, onArea}
 use Rattle.model.specs.Store.{Request, fresh, areaAt, onStore, storeAfter, answersTo, newestPart, newestRecords}
 use Rattle.model.specs.Backward.{creditBack, windowBack, countBack, phaseBack, tailBack}

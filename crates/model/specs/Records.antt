@@ -55,13 +55,6 @@ recordIn r =
 abbrev pub noRecording : Recording
 noRecording = record { number = 0; second = 0 }
 
--- the recording that an entry brings; a stop brings none
-unfoldable pub broughtBy : Entry → Recording
-broughtBy (Lot label N n d D rec) = rec
-broughtBy (Run h w rec) = rec
-broughtBy (Block q w rec) = rec
-broughtBy (Stop why days) = noRecording
-
 -- a run, a block and a stop have one number
 abbrev pub runKind : ℕ
 runKind = 2

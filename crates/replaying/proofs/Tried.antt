@@ -15,8 +15,8 @@ use Rattle.model.specs.declared.Recording.{Recording}
 use Rattle.model.specs.Sizes.{mostRecords}
 use Rattle.model.specs.Stations.{isContinuous}
 use Rattle.model.specs.Figuring.{sampleAsked, verdictOn, creditStep, levelStep, continuousStep, acceptedBy, isLot, labelOf, stepped}
-use Rattle.model.specs.Records.{noRecording, broughtBy, lotKind, runKind, blockKind, stopKind, entryOf}
-use Rattle.model.specs.Calls.{firstOf, ruleRefusals, isDiscontinued, isFull, sameLabel, sizeInRange, countsAgree, allows, bringsRecording, lacksRecording, accepts}
+use Rattle.model.specs.Records.{noRecording, lotKind, runKind, blockKind, stopKind, entryOf}
+use Rattle.model.specs.Calls.{firstOf, ruleRefusals, isDiscontinued, isFull, sameLabel, sizeInRange, countsAgree, allows, bringsRecording, broughtBy, lacksRecording, accepts}
 use Rattle.model.proofs.Allowed.{allowed-lot, allowed-run, allowed-block, allowed-stop, accepted-parts}
 use Rattle.model.proofs.Booleans.{both-true, never-both}
 use Rattle.rules.specs.Refusing.{isStop}
