@@ -24,7 +24,7 @@
  *    2 the stream is above 15
  *    3 no calls could have left these bytes in the stream's area; other streams still answer
  *    4 opened already
- *    5 no such plan: kind, option, a or b out of range
+ *    5 no such plan: kind, option, a, b or ceiling out of range
  *    6 not opened
  *    7 a call of another kind of plan
  *    8 discontinued
@@ -89,11 +89,13 @@ typedef struct {
 
 /*
  * Opens a stream, once. Kind 1 credit: a is the limit in millionths, 1 to 500,000; option 1: a lot with a wrong one is heard
- * whole also with credit. Kind 2 level: a is VL, 1 to 7; option 1 permits reduced. Kind 3 continuous: a is the clearance
- * number, 1 to 10,000, and b the interval, 2 to 200. What is not named is 0. Refusals 4, 5.
+ * whole also with credit; ceiling is the most of the credit that a sample size uses (Kmax of ISO 28593, clause 10, note 1), 1 to
+ * 128,000,000, or 0 for none, and the credit itself grows past it. Kind 2 level: a is VL, 1 to 7; option 1 permits reduced. Kind 3
+ * continuous: a is the clearance number, 1 to 10,000, and b the interval, 2 to 200. What is not named is 0, so only a credit plan
+ * has a ceiling. Refusals 4, 5.
  */
 listening_answer listening_open(uint8_t *store, size_t store_length, uint32_t stream, uint32_t kind, uint32_t option, uint32_t a,
-                                uint32_t b);
+                                uint32_t b, uint32_t ceiling);
 
 /*
  * Enters a lot of so many detections (size, N), of which a sample (n) was heard, wrong (d) of them wrong, and wrong_in_all (D)

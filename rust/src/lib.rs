@@ -7,7 +7,7 @@
 //!
 //! ```
 //! let mut store = vec![0; listening::STORE_LENGTH];
-//! listening::open(&mut store, 0, 1, 0, 15_000, 0);
+//! listening::open(&mut store, 0, 1, 0, 15_000, 0, 0);
 //! let asked = listening::ask(&store, 0, 201);
 //! // label 1, 201 detections, as many heard as were asked, none wrong; heard on recording 4711 from its second 90 on
 //! let lot = listening::lot(&mut store, 0, 1, 201, asked.first, 0, 0, 4711, 90);
@@ -77,7 +77,16 @@ mod c {
     }
 
     extern "C" {
-        pub fn listening_open(store: *mut u8, length: usize, stream: u32, kind: u32, option: u32, a: u32, b: u32) -> Answer;
+        pub fn listening_open(
+            store: *mut u8,
+            length: usize,
+            stream: u32,
+            kind: u32,
+            option: u32,
+            a: u32,
+            b: u32,
+            ceiling: u32,
+        ) -> Answer;
         pub fn listening_lot(
             store: *mut u8,
             length: usize,
@@ -140,10 +149,11 @@ mod c {
 // that the wrapper borrows for as long as the call runs, mutably where the call may write.
 
 /// Opens a stream: kind 1 credit (`a`: limit in millionths), 2 level (`a`: VL), 3 continuous (`a`: clearance number, `b`: interval).
-/// Option 1: a credit lot with a wrong one is heard whole also with credit; a level stream may go to reduced.
+/// Option 1: a credit lot with a wrong one is heard whole also with credit; a level stream may go to reduced. `ceiling`, of a credit
+/// stream alone: the most of the credit that a sample size uses (Kmax of ISO 28593, clause 10, note 1), at most 128,000,000; 0 for none.
 #[inline]
-pub fn open(store: &mut [u8], stream: u32, kind: u32, option: u32, a: u32, b: u32) -> Answer {
-    unsafe { c::listening_open(store.as_mut_ptr(), store.len(), stream, kind, option, a, b) }
+pub fn open(store: &mut [u8], stream: u32, kind: u32, option: u32, a: u32, b: u32, ceiling: u32) -> Answer {
+    unsafe { c::listening_open(store.as_mut_ptr(), store.len(), stream, kind, option, a, b, ceiling) }
 }
 
 /// Enters a lot (`size` N, `sample` n, `wrong` d, `wrong_in_all` D), heard on a recording of this number, not 0, from this second of it

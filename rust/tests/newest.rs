@@ -10,7 +10,7 @@ const LAST: u32 = STREAMS - 1;
 fn store() -> Vec<u8> {
     let mut store = vec![0; STORE_LENGTH];
     let answers = [
-        open(&mut store, LAST, 3, 0, 10, 4),
+        open(&mut store, LAST, 3, 0, 10, 4, 0),
         run(&mut store, LAST, 10, 0, 7, 60),
         stop(&mut store, LAST, 1, 3),
         block(&mut store, LAST, 3, 0, 0x0102_0304, u32::MAX),
@@ -86,7 +86,7 @@ fn a_refused_call_hands_back_nothing() {
 #[test]
 fn a_recording_is_the_calls_last_two_arguments() {
     let mut store = vec![0; STORE_LENGTH];
-    open(&mut store, 0, 1, 0, 15_000, 0);
+    open(&mut store, 0, 1, 0, 15_000, 0, 0);
     gives(lot(&mut store, 0, 1, 201, 51, 0, 0, 0, 9), [17, 0, 0, 0]);
     gives(lot(&mut store, 0, 1, 201, 51, 0, 0, 8, 9), [0, 1, 201, 201]);
     let (_, part) = newest(&store, 0, 1);

@@ -64,7 +64,7 @@ static listening_answer make(uint32_t call, uint32_t stream, const uint32_t *a)
 {
     switch (call) {
     case 1:
-        return listening_open(store, sizeof store, stream, a[0], a[1], a[2], a[3]);
+        return listening_open(store, sizeof store, stream, a[0], a[1], a[2], a[3], a[4]);
     case 2:
         return listening_lot(store, sizeof store, stream, a[0], a[1], a[2], a[3], a[4], a[5], a[6]);
     case 3:

@@ -1,8 +1,8 @@
 /*
  * What C alone shows of include/listening.h, beside the case files, which tests/c/calls.c runs: lengths that are not the store's, streams
- * that no frame can hold, the bytes around the store, the newest records in place, damaged bytes, lists of calls, and judgements with
- * numbers beside a flag that is false. After each refused call, and after Ask, Read and Newest, every byte must be as before, and after a
- * judgement the measurements. Prints each check that fails; the last line is the count.
+ * that no frame can hold, the bytes around the store, a ceiling and the newest records in place, damaged bytes, lists of calls, and
+ * judgements with numbers beside a flag that is false. After each refused call, and after Ask, Read and Newest, every byte must be as
+ * before, and after a judgement the measurements. Prints each check that fails; the last line is the count.
  */
 #include "listening.h"
 
@@ -65,16 +65,20 @@ static void lies(const char *what, listening_part is, size_t offset, size_t leng
     check(what, is.offset == offset && is.length == length && is_kept());
 }
 
-/* Each function once, on two streams whose areas are the first and the last. */
+/* Each function once, on two streams whose areas are the first and the last. The ceiling is 16,909,060, far above the credit. */
 static void each_function(void)
 {
-    enters("open", listening_open(store, LENGTH, 0, 1, 0, 15000, 0));
+    const uint8_t ceiling[8] = {0x04, 0x03, 0x02, 0x01};
+    refused("a ceiling above the range", listening_open(store, LENGTH, 0, 1, 0, 15000, 0, 128000001), 5);
+    enters("open", listening_open(store, LENGTH, 0, 1, 0, 15000, 0, 0x01020304));
+    check("its ceiling", memcmp(store + 40, ceiling, sizeof ceiling) == 0);
     looks("ask", listening_ask(store, LENGTH, 0, 3), 3);
     enters("lot", listening_lot(store, LENGTH, 0, 1, 3, 3, 0, 0, 7, 60));
     enters("stop", listening_stop(store, LENGTH, 0, 1, 2));
     looks("read", listening_read(store, LENGTH, 0), 2);
     enters("back", listening_back(store, LENGTH, 0));
-    enters("open the last stream", listening_open(store, LENGTH, 15, 3, 0, 10, 4));
+    refused("a ceiling on a continuous plan", listening_open(store, LENGTH, 15, 3, 0, 10, 4, 1), 5);
+    enters("open the last stream", listening_open(store, LENGTH, 15, 3, 0, 10, 4, 0));
     enters("run", listening_run(store, LENGTH, 15, 10, 0, 8, 0));
     enters("block", listening_block(store, LENGTH, 15, 1, 0, UINT32_MAX, 0x01020304));
     looks("read the last stream", listening_read(store, LENGTH, 15), 2);
@@ -102,7 +106,7 @@ static void newest_records(void)
 /* The nine functions, each refused by this number, and no part of the store. */
 static void all_refused(size_t length, uint32_t stream, uint32_t refusal)
 {
-    refused("open", listening_open(store, length, stream, 1, 0, 15000, 0), refusal);
+    refused("open", listening_open(store, length, stream, 1, 0, 15000, 0, 100), refusal);
     refused("lot", listening_lot(store, length, stream, 2, 3, 3, 0, 0, 1, 0), refusal);
     refused("run", listening_run(store, length, stream, 1, 0, 1, 0), refusal);
     refused("block", listening_block(store, length, stream, 1, 0, 1, 0), refusal);
@@ -145,6 +149,7 @@ static void damaged_byte(const char *what, size_t at, uint8_t value, uint8_t dam
 static void damaged_bytes(void)
 {
     damaged_byte("the tail, after a block of four whose first was heard", 30, 3, 2);
+    damaged_byte("the ceiling, which a continuous plan does not have", 40, 0, 1);
     damaged_byte("the run's recording, 8", HEADER + 20, 8, 0);
     damaged_byte("the recording behind the last record", HEADER + 2 * RECORD + 20, 0, 1);
 }
@@ -183,6 +188,8 @@ static void lists(void)
         calls[0] = no_calls[k];
         check("no such call", !listening_list(store, LENGTH, calls, calls_length, answers, answers_length));
     }
+    calls[0] = 1; /* an Open has five arguments, and no recording behind them */
+    check("an Open with the arguments of a lot", !listening_list(store, LENGTH, calls, calls_length, answers, answers_length));
     calls[0] = 5; /* a stop has no recording, nor numbers before it */
     check("a stop with the arguments of a lot", !listening_list(store, LENGTH, calls, calls_length, answers, answers_length));
     calls[0] = 2;

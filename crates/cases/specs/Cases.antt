@@ -1,5 +1,5 @@
--- Paper 01, "Table of proved cases": the sample sizes and the continuous case. Two numbers are document 000's and not the paper's:
--- Table 2 gives 50 for 48 and 25 for 24. Assumes nothing.
+-- Paper 01, "Table of proved cases": the sample sizes and the continuous case; and card 3's samples under a ceiling. Two numbers are
+-- document 000's and not the paper's: Table 2 gives 50 for 48 and 25 for 24. Assumes nothing.
 use Prim.Native.Nat.{ℕ, _+_}
 use mathlib.Core.Bool.{true, false}
 use mathlib.Core.List.{List, [], _∷_}
@@ -21,13 +21,22 @@ case g s = record { given = g; stated = s }
 
 unfoldable pub creditCases : List Case
 creditCases =
-    case (creditSample 0 201 15000) 51
-    ∷ case (creditSample 201 192 15000) 28
-    ∷ case (creditSample 0 50 10000) 34
-    ∷ case (creditSample 200 50 10000) 15
-    ∷ case (creditSample 0 9900 10000) 99
-    ∷ case (creditSample 0 9901 10000) 100
-    ∷ case (creditSample 0 1 10000) 1
+    case (creditSample 0 0 201 15000) 51
+    ∷ case (creditSample 201 0 192 15000) 28
+    ∷ case (creditSample 0 0 50 10000) 34
+    ∷ case (creditSample 200 0 50 10000) 15
+    ∷ case (creditSample 0 0 9900 10000) 99
+    ∷ case (creditSample 0 0 9901 10000) 100
+    ∷ case (creditSample 0 0 1 10000) 1
+    ∷ []
+
+-- paper 02, card 3: N 50 at A 10,000 under Kmax 100
+unfoldable pub ceilingCases : List Case
+ceilingCases =
+    case (creditSample 0 100 50 10000) 34
+    ∷ case (creditSample 50 100 50 10000) 25
+    ∷ case (creditSample 100 100 50 10000) 20
+    ∷ case (creditSample 150 100 50 10000) 20
     ∷ []
 
 unfoldable pub levelCases : List Case
@@ -69,4 +78,4 @@ Hold cs = givenIn cs ≡ statedIn cs
 
 -- the theorem over the table
 abbrev pub ProvedCases : Type 0
-ProvedCases = Hold creditCases × Hold levelCases × Hold continuousCases
+ProvedCases = Hold creditCases × Hold ceilingCases × Hold levelCases × Hold continuousCases

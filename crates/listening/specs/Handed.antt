@@ -1,4 +1,4 @@
--- What the calls' functions hand to one another: Open's arguments, the refusals before the area is looked at, what a call sees of a
+-- What the calls' functions hand to one another: the refusals before the area is looked at, what a call sees of a
 -- stream, what a write asks, and what is handed back. Assumes nothing.
 use Prim.Native.Nat.{ℕ, _+_, _<_}
 use mathlib.Core.Path.{_≡_}
@@ -17,10 +17,6 @@ use Rattle.model.specs.Store.{areaAt}
 use Rattle.records.specs.Records.{LevelFits}
 use Rattle.replay.specs.declared.Standing.{Standing}
 use Rattle.replay.specs.Standing.{nothingStands, standingOf}
-
--- Open's arguments as a plan
-abbrev pub planOf : ℕ → ℕ → ℕ → ℕ → Plan
-planOf kind option a b = record { kind = kind; option = option; a = a; b = b }
 
 -- 1: the store has another length; 2: there is no such stream; 0 where neither applies
 unfoldable pub storeRefusal : ℕ → ℕ → ℕ

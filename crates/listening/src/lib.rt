@@ -18,7 +18,7 @@ ghost use Rattle.model.specs.Store.{areaAt, onStore, endingAtLast, newestPart};
 ghost use Rattle.model.specs.Claims.{on};
 ghost use Rattle.records.specs.Records.{recordAt};
 ghost use Rattle.areas.specs.Written.{rewritten};
-ghost use Rattle.listening.specs.Handed.{planOf, storeRefusal, lookedAt, MayWrite, partOf};
+ghost use Rattle.listening.specs.Handed.{storeRefusal, lookedAt, MayWrite, partOf};
 use model::Answer;
 use model::Call;
 use model::Entry;
@@ -47,8 +47,8 @@ const OUT_OF_PHASE: u32 = 14;
 const OUT_OF_RANGE: u32 = 15;
 
 // Opens a stream with a plan.
-pub fn open(store: &mut [u8], stream: u32, kind: u32, option: u32, a: u32, b: u32) -> Answer
-    ensures { λ r. ⌜ record { answer = r; store = now (store .exit) } ≡ onStore (now (store .entry)) (on stream (Open (planOf kind option a b))) ⌝ }
+pub fn open(store: &mut [u8], stream: u32, plan: Plan) -> Answer
+    ensures { λ r. ⌜ record { answer = r; store = now (store .exit) } ≡ onStore (now (store .entry)) (on stream (Open plan)) ⌝ }
 {
     let standing = look(store, stream, 0);
     if standing.refusal == 0 {
@@ -57,7 +57,6 @@ pub fn open(store: &mut [u8], stream: u32, kind: u32, option: u32, a: u32, b: u3
     if standing.refusal != replay::UNOPENED {
         return answering::refused(standing.refusal);
     }
-    let plan = Plan { kind, option, a, b };
     if !plan::is_valid(plan) {
         return answering::refused(5);
     }
@@ -291,7 +290,7 @@ pub fn make(store: &mut [u8], stream: u32, call: Call) -> Answer
     ensures { λ r. ⌜ record { answer = r; store = now (store .exit) } ≡ onStore (now (store .entry)) (on stream call) ⌝ }
 {
     match call {
-        Call::Open(plan) => open(store, stream, plan.kind, plan.option, plan.a, plan.b),
+        Call::Open(plan) => open(store, stream, plan),
         Call::Enter(entry) => enter(store, stream, entry),
         Call::Back => back(store, stream),
         Call::Ask(size) => ask(store, stream, size),

@@ -6,12 +6,13 @@ ghost use Rattle.model.specs.declared.Entry.the-variants.{Lot, Run, Block, Stop
 ghost use Rattle.model.specs.declared.Call.the-variants.{Open, Enter, Back, Ask, Read, Newest};
 ghost use Rattle.model.specs.Store.{onStore, newestPart};
 ghost use Rattle.model.specs.Claims.{on};
-ghost use Rattle.listening.specs.Handed.{planOf};
+ghost use Rattle.model.specs.Stations.{planOf};
 ghost use Rattle.lists.specs.Lists.{Listed};
 ghost use Rattle.measuring.specs.Judging.{judgement, limitGiven, fGiven};
 use measuring::Judgement;
 use model::Answer;
 use model::Part;
+use model::Plan;
 use model::Recording;
 
 #[no_mangle]
@@ -22,10 +23,18 @@ pub extern "C" fn listening_open(
     option: u32,
     a: u32,
     b: u32,
+    ceiling: u32,
 ) -> Answer
-    ensures { λ r. ⌜ record { answer = r; store = now (store .exit) } ≡ onStore (now (store .entry)) (on stream (Open (planOf kind option a b))) ⌝ }
+    ensures { λ r. ⌜ record { answer = r; store = now (store .exit) } ≡ onStore (now (store .entry)) (on stream (Open (planOf kind option a b ceiling))) ⌝ }
 {
-    listening::open(store, stream, kind, option, a, b)
+    let plan = Plan {
+        kind,
+        option,
+        a,
+        b,
+        ceiling,
+    };
+    listening::open(store, stream, plan)
 }
 
 #[no_mangle]

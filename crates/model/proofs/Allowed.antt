@@ -7,7 +7,7 @@ use native.Mathlib.Omega.{arith}
 use lib.Dec.{T, eqb, ltb, leb, eqb→eq, leb→le, ltb→lt}
 use lib.ListN.{length}
 use borrow.Author.Tests.{ltb-false, leb-false, eqb-true, eqb-false, eq-eqb, ne-eqb, not-false}
-use Rattle.plans.specs.Limits.{largestAoql, verificationLevels, largestClearance, largestInterval, longestRun, longestStop, within}
+use Rattle.plans.specs.Limits.{largestAoql, largestCeiling, verificationLevels, largestClearance, largestInterval, longestRun, longestStop, within}
 use Rattle.plans.specs.Continuous.{isSampling}
 use Rattle.model.specs.declared.Plan.{Plan}
 use Rattle.model.specs.declared.Entry.{Entry}
@@ -15,7 +15,7 @@ use Rattle.model.specs.declared.Entry.the-variants.{Lot, Run, Block, Sto
 use Rattle.model.specs.declared.Figures.{Figures}
 use Rattle.model.specs.declared.Recording.{Recording}
 use Rattle.model.specs.Sizes.{mostRecords}
-use Rattle.model.specs.Stations.{isCredit, isLevel, isContinuous, validPlan, entryArguments, allWords}
+use Rattle.model.specs.Stations.{isCredit, isLevel, isContinuous, validRanges, validCeiling, validPlan, entryArguments, allWords}
 use Rattle.model.specs.Figuring.{sampleAsked, verdictOn, figuresOf}
 use Rattle.model.specs.Calls.{
   Refusal,
@@ -260,6 +260,7 @@ pub record PlanRange (p : Plan) : Type 0 where
   pub optionTo : p .option ≤ 1
   pub aTo : p .a ≤ largestAoql
   pub bTo : p .b ≤ largestInterval
+  pub ceilingTo : p .ceiling ≤ largestCeiling
 
 -- those of a plan for lots
 lots-range : (p : Plan) (most : ℕ) → T (within 1 most (p .a) && eqb (p .b) 0 && leb (p .option) 1)
@@ -287,36 +288,51 @@ blocks-range p t =
     let b = within-of 2 largestInterval (p .b) (holds-of _ (inner .1)) in
     record { clearance = a .0; clearanceMost = a .1; interval = b .0; intervalMost = b .1; noOption = eqb→eq (p .option) 0 (outer .1) }
 
-pub plan-range : (p : Plan) → T (validPlan p) → PlanRange p
-unfolding validPlan isCredit isLevel isContinuous
-plan-range p t = go (isCredit p) (isLevel p) (isContinuous p) refl refl refl
+-- the two parts of what 5 leaves
+in-ranges : (p : Plan) → T (validPlan p) → T (validRanges p)
+unfolding validPlan
+in-ranges p t = both-of (validRanges p) (validCeiling p) t .0
+
+ceiling-range : (p : Plan) → T (validPlan p) → p .ceiling ≤ largestCeiling
+unfolding validPlan validCeiling
+ceiling-range p t = go (isCredit p) refl (both-of (validRanges p) (validCeiling p) t .1)
   where
-    go : (credit level continuous : Bool) → isCredit p ≡ credit → isLevel p ≡ level → isContinuous p ≡ continuous → PlanRange p
-    go true level continuous c l k =
-        omega (arith, eqb-true (p .kind) 1 c, lots-range p largestAoql (rw (validPlan, c) at t))
-    go false true continuous c l k =
-        omega (arith, eqb-true (p .kind) 2 l, lots-range p verificationLevels (rw (validPlan, c, l) at t))
-    go false false true c l k = omega (arith, eqb-true (p .kind) 3 k, blocks-range p (rw (validPlan, c, l, k) at t))
-    go false false false c l k = absurd (rw (validPlan, c, l, k) at t)
+    go : (credit : Bool) → isCredit p ≡ credit → T (validCeiling p) → p .ceiling ≤ largestCeiling
+    go true c u = leb→le (p .ceiling) largestCeiling (rw c at u)
+    go false c u = omega (arith, eqb→eq (p .ceiling) 0 (rw c at u))
+
+pub plan-range : (p : Plan) → T (validPlan p) → PlanRange p
+unfolding validRanges isCredit isLevel isContinuous
+plan-range p valid = go (isCredit p) (isLevel p) (isContinuous p) refl refl refl (in-ranges p valid)
+  where
+    go : (credit level continuous : Bool) → isCredit p ≡ credit → isLevel p ≡ level → isContinuous p ≡ continuous → T (validRanges p)
+        → PlanRange p
+    go true level continuous c l k t =
+        omega (arith, eqb-true (p .kind) 1 c, ceiling-range p valid, lots-range p largestAoql (rw (validRanges, c) at t))
+    go false true continuous c l k t =
+        omega (arith, eqb-true (p .kind) 2 l, ceiling-range p valid, lots-range p verificationLevels (rw (validRanges, c, l) at t))
+    go false false true c l k t =
+        omega (arith, eqb-true (p .kind) 3 k, ceiling-range p valid, blocks-range p (rw (validRanges, c, l, k) at t))
+    go false false false c l k t = absurd (rw (validRanges, c, l, k) at t)
 
 -- one that is for neither credit nor levels is continuous
 pub third-kind : (p : Plan) → T (validPlan p) → (p .kind ≡ 1 → ⊥) → (p .kind ≡ 2 → ⊥) → p .kind ≡ 3
 third-kind p valid one two = omega (arith, plan-range p valid, one, two)
 
 pub continuous-plan : (p : Plan) → T (validPlan p) → isContinuous p ≡ true → ContinuousPlan p
-unfolding validPlan isCredit isLevel isContinuous
+unfolding validRanges isCredit isLevel isContinuous
 continuous-plan p valid e =
     let kind : p .kind ≡ 3 = eqb-true (p .kind) 3 e in
-    blocks-range p (rw kind at valid)
+    blocks-range p (rw kind at (in-ranges p valid))
 
 -- the verification level of a valid level plan
 pub level-plan : (p : Plan) → T (validPlan p) → isCredit p ≡ false → isContinuous p ≡ false
     → (1 ≤ p .a) × (p .a ≤ verificationLevels)
-unfolding validPlan
-level-plan p valid credit continuous = go (isLevel p) refl
+unfolding validRanges
+level-plan p valid credit continuous = go (isLevel p) refl (in-ranges p valid)
   where
-    go : (level : Bool) → isLevel p ≡ level → (1 ≤ p .a) × (p .a ≤ verificationLevels)
-    go true l =
-        let range = lots-range p verificationLevels (rw (validPlan, credit, l) at valid) in
+    go : (level : Bool) → isLevel p ≡ level → T (validRanges p) → (1 ≤ p .a) × (p .a ≤ verificationLevels)
+    go true l t =
+        let range = lots-range p verificationLevels (rw (validRanges, credit, l) at t) in
         (range .0, range .1)
-    go false l = absurd (rw (validPlan, credit, l, continuous) at valid)
+    go false l t = absurd (rw (validRanges, credit, l, continuous) at t)

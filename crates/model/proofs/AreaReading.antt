@@ -89,7 +89,8 @@ module _ (p : Plan) (es : List Entry) (valid : T (validPlan p)) (sound : T (admi
       let range = plan-range p valid in
       let a : value (bytes 4 (p .a)) ≡ p .a = value-bytes 4 (omega arith) in
       let b : value (bytes 2 (p .b)) ≡ p .b = value-bytes 2 (omega arith) in
-      λ i. record { kind = p .kind; option = p .option; a = a i; b = b i }
+      let ceiling : value (bytes 4 (p .ceiling)) ≡ p .ceiling = value-bytes 4 (omega arith) in
+      λ i. record { kind = p .kind; option = p .option; a = a i; b = b i; ceiling = ceiling i }
 
   pub count-read : countIn (areaOf (opened p es)) ≡ length es
   unfolding countIn areaOf headerOf part bytes

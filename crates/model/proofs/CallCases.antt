@@ -1,6 +1,6 @@
 -- The cases hold: the definitions are run. Assumes nothing.
 use mathlib.Core.Path.{refl}
-use Rattle.plans.specs.Credit.{roundedUp, sampleDividend, sampleDivisor, creditSample, creditVerdict, creditAfter}
+use Rattle.plans.specs.Credit.{roundedUp, usableCredit, sampleDividend, sampleDivisor, creditSample, creditVerdict, creditAfter}
 use Rattle.plans.specs.Verdicts.{acceptedOf, levelVerdict}
 use Rattle.plans.specs.Tables.{table1, lastLetters, lettersIn, codeLetter, table2, columnAt, tabled, levelSample}
 use Rattle.plans.specs.Stops.{setUpChanged, longStop}
@@ -22,7 +22,7 @@ use Rattle.plans.specs.Levels.{
 }
 use Rattle.plans.specs.Continuous.{screening, sampling, isSampling, afterRun, afterBlock, afterStop}
 use Rattle.little.specs.Little.{bytes, value, part, written}
-use Rattle.model.specs.Stations.{isCredit, isLevel, isContinuous, hasOption, validPlan, entryArguments, allWords}
+use Rattle.model.specs.Stations.{isCredit, isLevel, isContinuous, hasOption, validRanges, validCeiling, validPlan, entryArguments, allWords}
 use Rattle.plans.specs.Limits.{within}
 use Rattle.model.specs.Figuring.{
   noLevel,
@@ -96,10 +96,12 @@ use Rattle.model.specs.Cases.{
   levelCase,
   strictCase,
   continuousCase,
-  acceptedLots,
+  lotsAlike,
   reducedCase,
   wrongLots,
   takenBack,
+  ceilingCase,
+  ceilingEdges,
   discontinuedCase,
   creditArea,
   levelArea,
@@ -110,17 +112,17 @@ use Rattle.model.specs.Cases.{
 
 pub cases-hold : CasesHold
 unfolding
-    roundedUp sampleDividend sampleDivisor creditSample creditVerdict creditAfter acceptedOf levelVerdict
+    roundedUp usableCredit sampleDividend sampleDivisor creditSample creditVerdict creditAfter acceptedOf levelVerdict
     table1 lastLetters lettersIn codeLetter table2 columnAt tabled levelSample setUpChanged longStop
     levelStart lengthened judgedOnTightened shifted withheldIn counted arrived afterNormal afterTightened afterReduced
     levelAfter moved judgedLot metStop screening sampling isSampling afterRun afterBlock afterStop bytes value part written
-    isCredit isLevel isContinuous hasOption within validPlan entryArguments allWords
+    isCredit isLevel isContinuous hasOption within validRanges validCeiling validPlan entryArguments allWords
     noLevel started sampleAsked verdictOn acceptedBy creditStep levelStep continuousStep isLot labelOf stepped figuresOf
     firstOf isDiscontinued isFull sizeInRange countsAgree ruleRefusals bringsRecording broughtBy lacksRecording entryRefusals accepts askRefusals refusals refusalOf lotFigure readFigure
     entryAnswer newestKind newestOf answerOf withoutNewest changed call admissible admissibleStation
     recordingBytes recordBytes recordingIn recordIn recordOf entryOf headerOf recordsOf areaOf planIn countIn entriesIn stationIn sameBytes
     reading onArea fresh areaAt onStream onStore storeAfter answersTo newestPart newestRecords onAll callsOf answersOf
-    frameCase creditCase levelCase strictCase continuousCase acceptedLots reducedCase wrongLots takenBack discontinuedCase stationAnswers notPermitted fiveBeatTen agreedCase creditEdges continuousEdges recordingEdges recordingInTurn
+    frameCase creditCase levelCase strictCase continuousCase lotsAlike reducedCase wrongLots takenBack discontinuedCase stationAnswers notPermitted fiveBeatTen agreedCase ceilingCase ceilingEdges creditEdges continuousEdges recordingEdges recordingInTurn
     creditArea levelArea continuousArea threeStand
 cases-hold =
-    (refl, refl, refl, refl, refl, refl, refl, refl, refl, refl, refl, refl, refl, refl, refl, refl, (refl, refl), (refl, refl, refl, refl, refl, refl), (refl, refl, refl), (refl, refl, refl, refl, refl))
+    (refl, refl, refl, refl, refl, refl, refl, refl, refl, refl, refl, refl, refl, refl, refl, refl, refl, refl, (refl, refl), (refl, refl, refl, refl, refl, refl), (refl, refl, refl, refl), (refl, refl, refl), (refl, refl, refl, refl, refl))

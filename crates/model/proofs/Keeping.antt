@@ -129,4 +129,5 @@ pub plan-words : (p : Plan) → T (validPlan p) → T (allWords (arguments (Open
 unfolding arguments
 plan-words p v =
     let range = plan-range p v in
-    word-and _ _ (omega arith) (word-and _ _ (omega arith) (word-and _ _ (omega arith) (word-and _ _ (omega arith) no-words)))
+    word-and _ _ (omega arith)
+    (word-and _ _ (omega arith) (word-and _ _ (omega arith) (word-and _ _ (omega arith) (word-and _ _ (omega arith) no-words))))

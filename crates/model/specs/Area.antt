@@ -39,7 +39,8 @@ headerOf p count f =
     ++ zeros 1  -- 29
     ++ bytes 2 (f .continuous .tail)  -- 30
     ++ bytes 8 (f .accepted)  -- 32
-    ++ zeros 8  -- 40
+    ++ bytes 4 (p .ceiling)  -- 40
+    ++ zeros 4  -- 44
 
 -- the records, oldest first
 unfoldable pub recordsOf : List Entry → List ℕ
@@ -61,6 +62,7 @@ planIn area =
       option = getD area 1 0;
       a = value (part 4 4 area);
       b = value (part 8 2 area);
+      ceiling = value (part 40 4 area);
     }
 
 unfoldable pub countIn : List ℕ → ℕ

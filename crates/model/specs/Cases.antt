@@ -1,7 +1,7 @@
 -- Cases worked out by hand from papers 01 and 02, as calls with their answers, on stream 0 of a fresh store (`Gives`) or on an unopened
--- station (`StationGives`): paper 01's frame case, its table of proved cases, the rules that are easily got wrong, and card 1's. Document
--- 000's Table 2 gives 50 for the paper's 48, and 25 for its 24. Assumes nothing.
-use Prim.Native.Nat.{ℕ, zero, suc, _-_}
+-- station (`StationGives`): paper 01's frame case, its table of proved cases, the rules that are easily got wrong, and those of cards 1
+-- and 3. Document 000's Table 2 gives 50 for the paper's 48, and 25 for its 24. Assumes nothing.
+use Prim.Native.Nat.{ℕ, zero, suc, _+_, _-_}
 use mathlib.Core.Path.{_≡_}
 use mathlib.Core.List.{List, [], _∷_, _++_}
 use lib.ListN.{length, set, replicate}
@@ -13,7 +13,7 @@ use Rattle.model.specs.declared.Call.{Call}
 use Rattle.model.specs.declared.Call.the-variants.{Open, Enter, Back, Ask, Read, Newest}
 use Rattle.model.specs.declared.Answer.{Answer}
 use Rattle.model.specs.Sizes.{areaLength}
-use Rattle.model.specs.Stations.{Station, unopened, opened}
+use Rattle.model.specs.Stations.{Station, unopened, opened, planOf}
 use Rattle.model.specs.Calls.{refusalOf, gives, refused, call}
 use Rattle.model.specs.Area.{zeros, recordsOf}
 use Rattle.model.specs.Store.{fresh, areaAt, onStore, storeAfter, answersTo, newestPart, newestRecords}
@@ -48,8 +48,12 @@ stationAnswers st (c ∷ cs) = call st c .answer ∷ stationAnswers (call st c .
 abbrev pub StationGives : List Step → Type 0
 StationGives steps = stationAnswers unopened (callsOf steps) ≡ answersOf steps
 
+abbrev pub startUnder : ℕ → ℕ → ℕ → ℕ → ℕ → Call
+startUnder ceiling kind option a b = Open (planOf kind option a b ceiling)
+
+-- without a ceiling
 abbrev pub start : ℕ → ℕ → ℕ → ℕ → Call
-start kind option a b = Open (record { kind = kind; option = option; a = a; b = b })
+start = startUnder 0
 
 -- "The lots, runs and blocks in 01's cases bring recording 1, second 0": paper 02, card 1
 abbrev pub from : ℕ → ℕ → Recording
@@ -111,10 +115,14 @@ continuousCase =
     ∷ Read ⇒ gives 3 168 0
     ∷ []
 
--- so many accepted lots of five, on normal
-unfoldable pub acceptedLots : ℕ → List Step
-acceptedLots zero = []
-acceptedLots (suc i) = acceptedLots i ++ (lot i 5 5 0 0 ⇒ gives 1 5 1 ∷ [])
+-- so many lots of five, with labels from the first on, as many wrong in each and the same answer
+unfoldable pub lotsAlike : ℕ → ℕ → ℕ → Answer → List Step
+lotsAlike first zero d answer = []
+lotsAlike first (suc i) d answer = lotsAlike first i d answer ++ (lot (first + i) 5 5 d d ⇒ answer ∷ [])
+
+-- accepted on normal
+abbrev pub acceptedLots : ℕ → List Step
+acceptedLots n = lotsAlike 0 n 0 (gives 1 5 1)
 
 -- reduced after ten accepted in a row, where option 1 permits it; the withheld lot that ends reduced leads to normal and stays in the
 -- window, so that the next withheld lot leads to tightened. A stop ends reduced above three days
@@ -160,26 +168,18 @@ takenBack =
 -- on tightened, the ninth lot without five accepted in a row does not yet discontinue; the tenth does, and can be taken back
 unfoldable pub discontinuedCase : List Step
 discontinuedCase =
-    start 2 0 1 0 ⇒ gives 0 0 0
-    ∷ lot 0 5 5 1 1 ⇒ gives 3 0 1
-    ∷ lot 1 5 5 1 1 ⇒ gives 3 0 2
-    ∷ lot 2 5 5 1 1 ⇒ gives 3 0 2
-    ∷ lot 3 5 5 0 0 ⇒ gives 1 5 2
-    ∷ lot 4 5 5 0 0 ⇒ gives 1 5 2
-    ∷ lot 5 5 5 0 0 ⇒ gives 1 5 2
-    ∷ lot 6 5 5 0 0 ⇒ gives 1 5 2
-    ∷ lot 7 5 5 1 1 ⇒ gives 3 0 2
-    ∷ lot 8 5 5 1 1 ⇒ gives 3 0 2
-    ∷ lot 9 5 5 1 1 ⇒ gives 3 0 2
-    ∷ lot 10 5 5 1 1 ⇒ gives 3 0 2
-    ∷ lot 11 5 5 1 1 ⇒ gives 3 0 3
+    (start 2 0 1 0 ⇒ gives 0 0 0 ∷ lot 0 5 5 1 1 ⇒ gives 3 0 1 ∷ [])
+    ++ lotsAlike 1 2 1 (gives 3 0 2)
+    ++ lotsAlike 3 4 0 (gives 1 5 2)
+    ++ lotsAlike 7 4 1 (gives 3 0 2)
+    ++ (lot 11 5 5 1 1 ⇒ gives 3 0 3
     ∷ lot 12 5 5 0 0 ⇒ refused 8
     ∷ stop 1 0 ⇒ refused 8
     ∷ Ask 5 ⇒ refused 8
     ∷ run 1 0 ⇒ refused 7
     ∷ Back ⇒ gives 1 0 0
     ∷ lot 12 5 5 0 0 ⇒ gives 1 5 3
-    ∷ []
+    ∷ [])
 
 -- without option 1 the level stays
 unfoldable pub notPermitted : List Step
@@ -188,20 +188,10 @@ notPermitted = start 2 0 2 0 ⇒ gives 0 0 0 ∷ acceptedLots 11
 -- the tenth lot on tightened, if it is the fifth accepted in a row, leads to normal
 unfoldable pub fiveBeatTen : List Step
 fiveBeatTen =
-    start 2 0 1 0 ⇒ gives 0 0 0
-    ∷ lot 0 5 5 1 1 ⇒ gives 3 0 1
-    ∷ lot 1 5 5 1 1 ⇒ gives 3 0 2
-    ∷ lot 2 5 5 1 1 ⇒ gives 3 0 2
-    ∷ lot 3 5 5 1 1 ⇒ gives 3 0 2
-    ∷ lot 4 5 5 1 1 ⇒ gives 3 0 2
-    ∷ lot 5 5 5 1 1 ⇒ gives 3 0 2
-    ∷ lot 6 5 5 1 1 ⇒ gives 3 0 2
-    ∷ lot 7 5 5 0 0 ⇒ gives 1 5 2
-    ∷ lot 8 5 5 0 0 ⇒ gives 1 5 2
-    ∷ lot 9 5 5 0 0 ⇒ gives 1 5 2
-    ∷ lot 10 5 5 0 0 ⇒ gives 1 5 2
-    ∷ lot 11 5 5 0 0 ⇒ gives 1 5 1
-    ∷ []
+    (start 2 0 1 0 ⇒ gives 0 0 0 ∷ lot 0 5 5 1 1 ⇒ gives 3 0 1 ∷ [])
+    ++ lotsAlike 1 6 1 (gives 3 0 2)
+    ++ lotsAlike 7 4 0 (gives 1 5 2)
+    ++ (lot 11 5 5 0 0 ⇒ gives 1 5 1 ∷ [])
 
 -- each refusal of a credit stream at its edge
 unfoldable pub creditEdges : List Step
@@ -237,6 +227,34 @@ agreedCase =
     start 1 1 15000 0 ⇒ gives 0 0 0
     ∷ lot 1 201 51 0 0 ⇒ gives 1 201 201
     ∷ lot 2 192 28 1 3 ⇒ gives 2 189 0
+    ∷ []
+
+-- paper 02, card 3: a ceiling of 100 holds back the samples of a credit that has passed it, and the credit grows on; the verdict is by the
+-- credit
+unfoldable pub ceilingCase : List Step
+ceilingCase =
+    startUnder 100 1 0 10000 0 ⇒ gives 0 0 0
+    ∷ Ask 50 ⇒ gives 34 0 0
+    ∷ lot 1 50 34 0 0 ⇒ gives 1 50 50
+    ∷ Ask 50 ⇒ gives 25 0 0
+    ∷ lot 2 50 25 0 0 ⇒ gives 1 50 100
+    ∷ Ask 50 ⇒ gives 20 0 0
+    ∷ lot 3 50 20 0 0 ⇒ gives 1 50 150
+    ∷ Ask 50 ⇒ gives 20 0 0
+    ∷ lot 4 50 17 0 0 ⇒ refused 12
+    ∷ lot 4 50 20 0 0 ⇒ gives 1 50 200
+    ∷ lot 5 50 20 1 1 ⇒ gives 3 0 0
+    ∷ Ask 50 ⇒ gives 34 0 0
+    ∷ []
+
+-- only a credit plan may set a ceiling, up to 128,000,000; 4 comes before 5
+unfoldable pub ceilingEdges : List Step
+ceilingEdges =
+    startUnder 128000001 1 0 10000 0 ⇒ refused 5
+    ∷ startUnder 1 2 0 2 0 ⇒ refused 5
+    ∷ startUnder 1 3 0 10 4 ⇒ refused 5
+    ∷ startUnder 128000000 1 0 10000 0 ⇒ gives 0 0 0
+    ∷ startUnder 128000001 1 0 10000 0 ⇒ refused 4
     ∷ []
 
 -- each refusal of a continuous stream at its edge; a stop of more than three days breaks in sampling, and in screening c stays
@@ -315,18 +333,29 @@ StoreEdges =
     × (onStore (set (zeros 58112) 10 1) (on 0 (lot 1 201 51 0 0)) .answer ≡ refused 3)
     × (onStore (set (zeros 58112) 10 1) (on 1 (lot 1 201 51 0 0)) .answer ≡ refused 6)
 
+-- bytes 40 to 43 are the ceiling, and 44 to 47 are zero: a new stream whose byte is set so, on a credit and on a level plan
+abbrev pub readAfter : Call → ℕ → ℕ → Answer
+readAfter opening at byte = onStore (set (storeAfter fresh (on 0 opening ∷ [])) at byte) (on 0 Read) .answer
+
+abbrev pub CeilingBytes : Type 0
+CeilingBytes =
+    (readAfter (start 1 0 10000 0) 43 7 ≡ gives 0 0 0)
+    × (readAfter (start 1 0 10000 0) 43 8 ≡ refused 3)
+    × (readAfter (start 1 0 10000 0) 44 1 ≡ refused 3)
+    × (readAfter (start 2 0 2 0) 40 1 ≡ refused 3)
+
 -- a credit stream with so many stops takes one more until 128 records stand
 abbrev pub stops : ℕ → List Entry
 stops n = replicate n (Stop 1 0)
 
 abbrev pub somePlan : Plan
-somePlan = record { kind = 1; option = 0; a = 1; b = 0 }
+somePlan = planOf 1 0 1 0 0
 
 abbrev pub FullAt128 : Type 0
 FullAt128 =
     (refusalOf (opened somePlan (stops 127)) (stop 1 0) ≡ 0) × (refusalOf (opened somePlan (stops 128)) (stop 1 0) ≡ 9)
 
--- "The store", byte for byte, with the recording of paper 02, card 1, behind each record's numbers: the area after the calls starts with
+-- "The store", byte for byte, with card 1's recording behind each record's numbers and card 3's ceiling: the area after the calls starts with
 -- these bytes, and has zeros behind them
 
 abbrev pub AreaStarts : List Call → List ℕ → Type 0
@@ -337,7 +366,7 @@ unfoldable pub creditArea : List ℕ
 creditArea =
     1 ∷ 0 ∷ 1 ∷ 0 ∷ 152 ∷ 58 ∷ 0 ∷ 0 ∷ 0 ∷ 0 ∷ 0 ∷ 0 ∷ 0 ∷ 0 ∷ 0 ∷ 0
     ∷ 201 ∷ 0 ∷ 0 ∷ 0 ∷ 0 ∷ 0 ∷ 0 ∷ 0 ∷ 0 ∷ 0 ∷ 0 ∷ 0 ∷ 0 ∷ 0 ∷ 0 ∷ 0
-    ∷ 201 ∷ 0 ∷ 0 ∷ 0 ∷ 0 ∷ 0 ∷ 0 ∷ 0 ∷ 0 ∷ 0 ∷ 0 ∷ 0 ∷ 0 ∷ 0 ∷ 0 ∷ 0
+    ∷ 201 ∷ 0 ∷ 0 ∷ 0 ∷ 0 ∷ 0 ∷ 0 ∷ 0 ∷ 1 ∷ 2 ∷ 3 ∷ 4 ∷ 0 ∷ 0 ∷ 0 ∷ 0
     ∷ 1 ∷ 0 ∷ 0 ∷ 0 ∷ 1 ∷ 0 ∷ 0 ∷ 0 ∷ 201 ∷ 0 ∷ 0 ∷ 0 ∷ 0 ∷ 0 ∷ 0 ∷ 0 ∷ 0 ∷ 0 ∷ 0 ∷ 0
     ∷ 1 ∷ 0 ∷ 0 ∷ 0 ∷ 0 ∷ 0 ∷ 0 ∷ 0
     ∷ []
@@ -371,7 +400,7 @@ continuousArea =
 
 abbrev pub BytesHold : Type 0
 BytesHold =
-    AreaStarts (start 1 0 15000 0 ∷ lot 1 201 51 0 0 ∷ []) creditArea
+    AreaStarts (startUnder 67305985 1 0 15000 0 ∷ lot 1 201 51 0 0 ∷ []) creditArea
     × AreaStarts (start 2 1 2 0 ∷ Enter (Lot 7 300 16 1 1 (from 67305985 86400)) ∷ []) levelArea
     × AreaStarts threeStand continuousArea
 
@@ -398,6 +427,8 @@ CasesHold =
     × StationGives discontinuedCase
     × StationGives wrongLots
     × StationGives agreedCase
+    × StationGives ceilingCase
+    × StationGives ceilingEdges
     × Gives takenBack
     × StationGives creditEdges
     × StationGives continuousEdges
@@ -405,5 +436,6 @@ CasesHold =
     × StationGives recordingInTurn
     × FullAt128
     × StoreEdges
+    × CeilingBytes
     × BytesHold
     × PartsHold

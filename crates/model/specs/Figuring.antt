@@ -38,7 +38,7 @@ started p = withLevel (cond (isLevel p) levelStart noLevel)
 
 -- the sample that a lot of size N asks for
 unfoldable pub sampleAsked : Plan → Figures → ℕ → ℕ
-sampleAsked p f N = cond (isCredit p) (creditSample (f .credit .0) N (p .a)) (levelSample (p .a) (f .level .level) N)
+sampleAsked p f N = cond (isCredit p) (creditSample (f .credit .0) (p .ceiling) N (p .a)) (levelSample (p .a) (f .level .level) N)
 
 -- the verdict on a lot with d wrong in its sample
 unfoldable pub verdictOn : Plan → Figures → ℕ → ℕ

@@ -3,7 +3,7 @@ use Prim.Native.Nat.{ℕ, _^_}
 use mathlib.Core.Bool.{Bool, true, cond, _&&_}
 use mathlib.Core.List.{List, [], _∷_}
 use lib.Dec.{eqb, leb, ltb}
-use Rattle.plans.specs.Limits.{largestAoql, verificationLevels, largestClearance, largestInterval, within}
+use Rattle.plans.specs.Limits.{largestAoql, largestCeiling, verificationLevels, largestClearance, largestInterval, within}
 use Rattle.model.specs.declared.Plan.{Plan}
 use Rattle.model.specs.declared.Entry.{Entry}
 use Rattle.model.specs.declared.Entry.the-variants.{Lot, Run, Block, Stop}
@@ -14,6 +14,10 @@ use Rattle.model.specs.declared.Call.the-variants.{Open, Enter, Back, As
 pub data Station : Type 0 where
   unopened : Station
   opened : Plan → List Entry → Station
+
+-- Open's arguments as a plan
+abbrev pub planOf : ℕ → ℕ → ℕ → ℕ → ℕ → Plan
+planOf kind option a b ceiling = record { kind = kind; option = option; a = a; b = b; ceiling = ceiling }
 
 unfoldable pub isCredit : Plan → Bool
 isCredit p = eqb (p .kind) 1
@@ -28,14 +32,22 @@ isContinuous p = eqb (p .kind) 3
 unfoldable pub hasOption : Plan → Bool
 hasOption p = eqb (p .option) 1
 
--- "Calls", Open: what 5 leaves. The ranges of A and B by kind; option 0 or 1, in kind 3 only 0
-unfoldable pub validPlan : Plan → Bool
-validPlan p =
+-- "Calls", Open: the ranges of A and B by kind; option 0 or 1, in kind 3 only 0
+unfoldable pub validRanges : Plan → Bool
+validRanges p =
     cond (isCredit p) (within 1 largestAoql (p .a) && eqb (p .b) 0 && leb (p .option) 1)
     (cond (isLevel p) (within 1 verificationLevels (p .a) && eqb (p .b) 0 && leb (p .option) 1)
     (isContinuous p && within 1 largestClearance (p .a) && within 2 largestInterval (p .b) && eqb (p .option) 0))
 
--- the arguments in the order of "Calls"; the recording comes last (paper 02, card 1)
+-- paper 02, card 3: only a credit plan may set a ceiling
+unfoldable pub validCeiling : Plan → Bool
+validCeiling p = cond (isCredit p) (leb (p .ceiling) largestCeiling) (eqb (p .ceiling) 0)
+
+-- what 5 leaves
+unfoldable pub validPlan : Plan → Bool
+validPlan p = validRanges p && validCeiling p
+
+-- the arguments in the order of "Calls"; the recording comes last (paper 02, card 1), and so does the ceiling (card 3)
 unfoldable pub entryArguments : Entry → List ℕ
 entryArguments (Lot label N n d D rec) = label ∷ N ∷ n ∷ d ∷ D ∷ rec .number ∷ rec .second ∷ []
 entryArguments (Run h w rec) = h ∷ w ∷ rec .number ∷ rec .second ∷ []
@@ -43,7 +55,7 @@ entryArguments (Block q w rec) = q ∷ w ∷ rec .number ∷ rec .second ∷ []
 entryArguments (Stop why days) = why ∷ days ∷ []
 
 unfoldable pub arguments : Call → List ℕ
-arguments (Open p) = p .kind ∷ p .option ∷ p .a ∷ p .b ∷ []
+arguments (Open p) = p .kind ∷ p .option ∷ p .a ∷ p .b ∷ p .ceiling ∷ []
 arguments (Enter e) = entryArguments e
 arguments Back = []
 arguments (Ask N) = N ∷ []

@@ -17,6 +17,8 @@ pub struct Plan {
     pub a: u32,
     // the interval g of a continuous plan, 0 in the others
     pub b: u32,
+    // Kmax, the upper limit on the usable credit of a credit plan, 0 for none: paper 02, card 3
+    pub ceiling: u32,
 }
 
 // Where the raw recording behind an entry is found: paper 02, card 1.

@@ -32,7 +32,7 @@ module _ (limit number stream : ℕ) (s : List ℕ) (small : stream < limit) (wo
   unfolding numbered arguments entryArguments
   numbered-small =
       either-small limit (unusedZero number s frameArguments) _ Bad
-      (either-small limit (eqb number 1) _ _ (small, slots (0 ∷ 1 ∷ 2 ∷ 3 ∷ []))
+      (either-small limit (eqb number 1) _ _ (small, slots (0 ∷ 1 ∷ 2 ∷ 3 ∷ 4 ∷ []))
       (either-small limit (eqb number 2) _ _ (small, slots (0 ∷ 1 ∷ 2 ∷ 3 ∷ 4 ∷ 5 ∷ 6 ∷ []))
       (either-small limit (eqb number 3) _ _ (small, slots (0 ∷ 1 ∷ 5 ∷ 6 ∷ []))
       (either-small limit (eqb number 4) _ _ (small, slots (0 ∷ 1 ∷ 5 ∷ 6 ∷ []))

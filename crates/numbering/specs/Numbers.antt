@@ -9,6 +9,7 @@ use lib.ListN.{getD}
 use Rattle.model.specs.declared.Recording.{Recording}
 use Rattle.model.specs.declared.Entry.the-variants.{Lot, Run, Block, Stop}
 use Rattle.model.specs.declared.Call.the-variants.{Open, Enter, Back, Ask, Read, Newest}
+use Rattle.model.specs.Stations.{planOf}
 use Rattle.model.specs.Store.{Request}
 use Rattle.numbering.specs.declared.Frame.{Frame}
 use Rattle.numbering.specs.declared.Frame.the-variants.{Made, Bad}
@@ -29,11 +30,11 @@ recordingOf s = record { number = slot 6 s; second = slot 7 s }
 unfoldable pub isRecordingSlot : ℕ → Bool
 isRecordingSlot k = eqb k 6 || eqb k 7
 
--- whether a call uses a slot: Open four, Lot five, Run, Block and Stop two, Ask and Newest one, Back and Read none; and the recording's two
--- where the call brings one, which a stop does not
+-- whether a call uses a slot: Open five (paper 02, card 3), Lot five, Run, Block and Stop two, Ask and Newest one, Back and Read none; and
+-- the recording's two where the call brings one, which a stop does not
 unfoldable pub uses : ℕ → ℕ → Bool
 uses number k =
-    cond (eqb number 1) (leb k 4)
+    cond (eqb number 1) (leb k 5)
     (cond (eqb number 2) (leb k 5 || isRecordingSlot k)
     (cond (eqb number 3) (leb k 2 || isRecordingSlot k)
     (cond (eqb number 4) (leb k 2 || isRecordingSlot k)
@@ -51,7 +52,7 @@ unusedZero number s (suc k) = unusedZero number s k && (uses number (suc k) || e
 unfoldable pub numbered : ℕ → ℕ → List ℕ → Frame
 numbered number stream s =
     cond (unusedZero number s frameArguments)
-    (cond (eqb number 1) (Made stream (Open (record { kind = slot 1 s; option = slot 2 s; a = slot 3 s; b = slot 4 s })))
+    (cond (eqb number 1) (Made stream (Open (planOf (slot 1 s) (slot 2 s) (slot 3 s) (slot 4 s) (slot 5 s))))
     (cond (eqb number 2) (Made stream (Enter (Lot (slot 1 s) (slot 2 s) (slot 3 s) (slot 4 s) (slot 5 s) (recordingOf s))))
     (cond (eqb number 3) (Made stream (Enter (Run (slot 1 s) (slot 2 s) (recordingOf s))))
     (cond (eqb number 4) (Made stream (Enter (Block (slot 1 s) (slot 2 s) (recordingOf s))))

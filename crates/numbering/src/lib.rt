@@ -1,6 +1,7 @@
-// The calls by number, paper 01, "Hexadecimal frames", and paper 02, card 1: which number is which call, and which of its arguments it
+// The calls by number, paper 01, "Hexadecimal frames", and paper 02, cards 1 and 3: which number is which call, and which of its arguments it
 // uses.
 ghost use mathlib.Core.Path.{_≡_};
+ghost use Rattle.model.specs.Stations.{planOf};
 ghost use Rattle.numbering.specs.Numbers.{frameArguments, slot, recordingOf, uses, unusedZero, numbered};
 use model::Call;
 use model::Entry;
@@ -46,13 +47,14 @@ fn made(stream: u32, call: Call) -> Frame
 }
 
 fn open_call(arguments: [u32; ARGUMENTS]) -> Call
-    ensures { λ r. ⌜ r ≡ Call.Open (record { kind = slot 1 arguments; option = slot 2 arguments; a = slot 3 arguments; b = slot 4 arguments }) ⌝ }
+    ensures { λ r. ⌜ r ≡ Call.Open (planOf (slot 1 arguments) (slot 2 arguments) (slot 3 arguments) (slot 4 arguments) (slot 5 arguments)) ⌝ }
 {
     Call::Open(Plan {
         kind: arguments[0],
         option: arguments[1],
         a: arguments[2],
         b: arguments[3],
+        ceiling: arguments[4],
     })
 }
 
@@ -118,7 +120,7 @@ fn is_used(number: u32, slot: usize) -> bool
 {
     let recording = (slot == 6) | (slot == 7);
     match number {
-        1 => slot <= 4,
+        1 => slot <= 5,
         2 => (slot <= 5) | recording,
         3 => (slot <= 2) | recording,
         4 => (slot <= 2) | recording,

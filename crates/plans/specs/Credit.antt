@@ -1,5 +1,5 @@
--- Credit lots: document 004 (ISO 28593), clauses 9 and 10; paper 01, "Credit lots". Assumes nothing.
-use Prim.Native.Nat.{ℕ, _+_, _*_, _/_, _%_, _≤_}
+-- Credit lots: document 004 (ISO 28593), clauses 9 and 10; paper 01, "Credit lots"; paper 02, card 3. Assumes nothing.
+use Prim.Native.Nat.{ℕ, _+_, _*_, _/_, _%_, _≤_, min}
 use mathlib.Core.Bool.{Bool, cond, _||_}
 use lib.Dec.{eqb}
 use Rattle.plans.specs.Verdicts.{lotAccepted, lotHeard, lotWithheld}
@@ -13,17 +13,21 @@ pub record LeastNotBelow (a b n : ℕ) : Type 0 where
   pub notBelow : a ≤ n * b
   pub least : (m : ℕ) → a ≤ m * b → n ≤ m
 
--- clause 10 a), formula (1), times a million, with the AOQL in millionths: the quotient N / ((K + N) a + 1) is
--- sampleDividend N / sampleDivisor K N A
+-- clause 10, note 1: the usable credit is the smaller of the credit K and the upper limit Kmax imposed on it; Kmax = 0 imposes none
+unfoldable pub usableCredit : ℕ → ℕ → ℕ
+usableCredit K Kmax = cond (eqb Kmax 0) K (min K Kmax)
+
+-- clause 10 a), formula (1), as note 1 has it, times a million, with the AOQL in millionths: the quotient
+-- N / ((min(K, Kmax) + N) a + 1) is sampleDividend N / sampleDivisor K Kmax N A
 unfoldable pub sampleDividend : ℕ → ℕ
 sampleDividend N = N * 1000000
 
-unfoldable pub sampleDivisor : ℕ → ℕ → ℕ → ℕ
-sampleDivisor K N A = (K + N) * A + 1000000
+unfoldable pub sampleDivisor : ℕ → ℕ → ℕ → ℕ → ℕ
+sampleDivisor K Kmax N A = (usableCredit K Kmax + N) * A + 1000000
 
--- clause 10 a): the quotient of formula (1), rounded up to a whole number
-unfoldable pub creditSample : ℕ → ℕ → ℕ → ℕ
-creditSample K N A = roundedUp (sampleDividend N) (sampleDivisor K N A)
+-- clause 10 a): the quotient of the formula, rounded up to a whole number
+unfoldable pub creditSample : ℕ → ℕ → ℕ → ℕ → ℕ
+creditSample K Kmax N A = roundedUp (sampleDividend N) (sampleDivisor K Kmax N A)
 
 -- clause 10 b) and c): a lot that is not accepted is heard whole where the credit was 0, or where that was agreed (option 1)
 unfoldable pub creditVerdict : ℕ → Bool → ℕ → ℕ

@@ -1,4 +1,4 @@
-// What a range is, and the ranges that paper 01 sets, once for all code; specs/Limits.antt has them for the definitions, with the refusal
+// What a range is, and the ranges that papers 01 and 02 set, once for all code; specs/Limits.antt has them for the definitions, with the refusal
 // of each.
 ghost use mathlib.Core.Path.{_≡_};
 ghost use Rattle.plans.specs.Limits.{within as isWithin};
@@ -12,6 +12,9 @@ pub const LEAST_LEVEL_LOT: u32 = 2;
 
 // An AOQL, in millionths.
 pub const LARGEST_AOQL: u32 = 500000;
+
+// Of a credit plan, on its usable credit.
+pub const LARGEST_CEILING: u32 = 128000000;
 
 // VL-1 to VL-7.
 pub const VERIFICATION_LEVELS: u32 = 7;

@@ -1,4 +1,4 @@
-// One record and the header of a stream's area, between bytes and values: paper 01, "The store", and paper 02, card 1.
+// One record and the header of a stream's area, between bytes and values: paper 01, "The store", and paper 02, cards 1 and 3.
 //
 // The offsets are those of model's specs/Records.antt and specs/Area.antt. Nothing here knows the list of entries, or a refusal.
 ghost use mathlib.Core.Path.{_≡_};
@@ -129,7 +129,7 @@ pub fn clear_record(area: &mut [u8], i: usize)
     put_record(area, i, with_one(0, 0, 0, no_recording()));
 }
 
-// The plan: bytes 0, 1 and 4 to 9.
+// The plan: bytes 0, 1, 4 to 9 and 40 to 43.
 pub fn get_plan(area: &[u8]) -> Plan
     requires { ⌜ length (now area) ≡ areaLength ⌝ }
     ensures { λ r. ⌜ r ≡ planIn (now (area .entry)) ⌝ }
@@ -139,6 +139,7 @@ pub fn get_plan(area: &[u8]) -> Plan
         option: little::byte(area, 1),
         a: little::get_u32(area, 4),
         b: little::get_u16(area, 8) as u32,
+        ceiling: little::get_u32(area, 40),
     }
 }
 
@@ -161,7 +162,8 @@ pub fn put_header(area: &mut [u8], plan: Plan, count: usize, figures: Figures)
     put_level(area, figures);
     put_continuous(area, figures);
     little::put_u64(area, 32, figures.accepted);
-    little::put_u64(area, 40, 0);
+    little::put_u32(area, 40, plan.ceiling);
+    little::put_u32(area, 44, 0);
 }
 
 // Is the header that of a stream with this plan, so many standing records, and these figures after them?
@@ -191,7 +193,7 @@ pub fn has_header(area: &[u8], plan: Plan, count: usize, figures: Figures) -> bo
     if little::get_u64(area, 32) != figures.accepted {
         return false;
     }
-    little::get_u64(area, 40) == 0
+    has_ceiling(area, plan.ceiling)
 }
 
 // Is every byte zero from an index on?
@@ -237,7 +239,7 @@ fn put_start(area: &mut [u8], at: usize, kind: u8, beside: u8, behind: u16)
     little::put_u16(area, at + 2, behind);
 }
 
-// Writes bytes 0 to 11 of the header, plan and count, whatever the figures.
+// Writes bytes 0 to 11 of the header, count and plan but for its ceiling, whatever the figures.
 fn put_plan(area: &mut [u8], plan: Plan, count: usize)
     requires { ⌜ (length (now area) ≡ areaLength) × PlanFits plan count ⌝ }
     ensures { λ _. ⌜ ((f : Figures) → now (area .exit) ≡ written 0 (part 0 12 (headerOf plan count f)) (now (area .entry))) ⌝ }
@@ -272,7 +274,7 @@ fn put_continuous(area: &mut [u8], figures: Figures)
     little::put_u16(area, 30, state.tail);
 }
 
-// Are bytes 0 to 11 those of a header with this plan and count, whatever the figures?
+// Are bytes 0 to 11 those of a header with this plan and count, whatever the figures? The ceiling is not among them.
 fn has_plan(area: &[u8], plan: Plan, count: usize) -> bool
     requires { ⌜ (length (now area) ≡ areaLength) × PlanFits plan count ⌝ }
     ensures { λ r. ⌜ ((f : Figures) → Decides r (part 0 12 (now (area .entry)) ≡ part 0 12 (headerOf plan count f))) ⌝ }
@@ -313,4 +315,12 @@ fn has_continuous(area: &[u8], state: Continuous) -> bool
         & (area[28] == state.phase)
         & (area[29] == 0)
         & (little::get_u16(area, 30) == state.tail)
+}
+
+// The same of bytes 40 to 47 and a plan's ceiling, behind which four are zero.
+fn has_ceiling(area: &[u8], ceiling: u32) -> bool
+    requires { ⌜ length (now area) ≡ areaLength ⌝ }
+    ensures { λ r. ⌜ ((p : Plan) (n : ℕ) (f : Figures) → p .ceiling ≡ ceiling → Decides r (part 40 8 (now (area .entry)) ≡ part 40 8 (headerOf p n f))) ⌝ }
+{
+    (little::get_u32(area, 40) == ceiling) & (little::get_u32(area, 44) == 0)
 }

@@ -7,7 +7,7 @@ use lib.Dec.{T}
 use lib.ListN.{length, drop, getD}
 use Rattle.model.specs.declared.Plan.{Plan}
 use Rattle.model.specs.Sizes.{headerLength, areaLength, mostRecords}
-use Rattle.model.specs.Stations.{unopened, opened, validPlan}
+use Rattle.model.specs.Stations.{unopened, opened, planOf, validPlan}
 use Rattle.model.specs.Figuring.{started, figuresOf}
 use Rattle.little.specs.Little.{part}
 use Rattle.model.specs.Area.{headerOf, planIn, countIn, Reading, unsound, holds}
@@ -16,7 +16,7 @@ use Rattle.replay.specs.declared.Standing.{Standing}
 
 -- the plan of a stream that has none
 abbrev pub noPlan : Plan
-noPlan = record { kind = 0; option = 0; a = 0; b = 0 }
+noPlan = planOf 0 0 0 0 0
 
 -- nothing but a refusal to tell of
 unfoldable pub nothingStands : ℕ → Standing

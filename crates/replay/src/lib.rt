@@ -188,6 +188,7 @@ pub fn nothing(refusal: u32) -> Standing
         option: 0,
         a: 0,
         b: 0,
+        ceiling: 0,
     };
     let figures = plan::started(plan);
     Standing {

@@ -109,7 +109,7 @@ module _ (p : Plan) (s : Carried) (on : OnCredit p s) where
 
   -- a lot, judged by the verdict and the sample of its credit
   module _ (label N d D v n : ℕ) (judged : v ≡ creditVerdict (s .credit .0) (eqb (p .option) 1) d)
-      (asked : n ≡ creditSample (s .credit .0) N (p .a)) where
+      (asked : n ≡ creditSample (s .credit .0) (p .ceiling) N (p .a)) where
     judged-so : verdictOn p (figuresIn s) d ≡ v
     unfolding verdictOn isCredit hasOption figuresIn lotFigures
     judged-so = rw (on .kind) (sym judged)
@@ -164,7 +164,7 @@ module _ (p : Plan) (s : Carried) (on : OnCredit p s) where
       unfolding creditVerdict acceptedOf countsAgree after
       good-stands credit same = rw same (lot-given label N 0 0 1 _ refl refl true (rw (follows, leb·zero)))
 
-      module _ (d D v n : ℕ) (judged : v ≡ creditVerdict (s .credit .0) (eqb (p .option) 1) d) (asked : n ≡ creditSample (s .credit .0) N (p .a))
+      module _ (d D v n : ℕ) (judged : v ≡ creditVerdict (s .credit .0) (eqb (p .option) 1) d) (asked : n ≡ creditSample (s .credit .0) (p .ceiling) N (p .a))
           (agree : Bool) (counted : agree ≡ countsAgree v N n d D) where
         pub lot-disagrees : not agree ≡ true → LotGives p s label N d D Fails
         lot-disagrees fails = lot-given label N d D v n judged asked false (rw (follows, sym counted ∙ not-true agree fails))

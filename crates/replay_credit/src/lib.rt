@@ -214,7 +214,7 @@ fn step_wrong_lot(plan: Plan, carried: Carried, lot: HeardLot) -> Step
         return Step::Fails;
     }
     let credit = carried.credit;
-    let sample = credit.sample(lot.size, plan.a);
+    let sample = credit.sample(plan.ceiling, lot.size, plan.a);
     let verdict = credit.verdict(plan.option == 1, lot.wrong);
     if !refusing::do_counts_agree(verdict, lot.size, sample, lot.wrong, lot.wrong_in_all) {
         return Step::Fails;

@@ -33,7 +33,7 @@ credit-within f count within few = omega arith
 pub sample-at-most : (p : Plan) (f : Figures) (N : ℕ) → sampleAsked p f N ≤ N
 unfolding sampleAsked levelSample
 sample-at-most p f N =
-    either (λ (n : ℕ). n ≤ N) (isCredit p) (credit-sample-at-most (f .credit .0) N (p .a)) (omega arith)
+    either (λ (n : ℕ). n ≤ N) (isCredit p) (credit-sample-at-most (f .credit .0) (p .ceiling) N (p .a)) (omega arith)
 
 -- where the first test holds, so does the second
 implied : (a b : Bool) → not a || b ≡ true → a ≡ true → b ≡ true

@@ -1,6 +1,6 @@
-// Plans: paper 01, "Calls", Open.
+// Plans: paper 01, "Calls", Open, and paper 02, card 3.
 ghost use mathlib.Core.Path.{_≡_};
-ghost use Rattle.model.specs.Stations.{validPlan};
+ghost use Rattle.model.specs.Stations.{validRanges, validCeiling, validPlan};
 ghost use mathlib.Core.Bool.{_&&_};
 ghost use lib.Dec.{eqb, leb};
 ghost use Rattle.plans.specs.Limits.{within, largestClearance, largestInterval};
@@ -22,17 +22,7 @@ pub const CONTINUOUS: u32 = 3;
 pub fn is_valid(plan: Plan) -> bool
     ensures { λ r. ⌜ r ≡ validPlan plan ⌝ }
 {
-    let kind = plan.kind;
-    if kind == CREDIT {
-        return is_for_lots(plan, limits::LARGEST_AOQL);
-    }
-    if kind == LEVEL {
-        return is_for_lots(plan, limits::VERIFICATION_LEVELS);
-    }
-    if kind == CONTINUOUS {
-        return is_for_blocks(plan);
-    }
-    false
+    has_ranges(plan) & has_ceiling(plan)
 }
 
 // The figures of a stream that has just been opened.
@@ -50,7 +40,34 @@ pub fn started(plan: Plan) -> Figures
     })
 }
 
-// What refusal 5 leaves of a plan for lots, whose A is at most so large.
+// Whether A, B and the option are in the ranges of the plan's kind.
+fn has_ranges(plan: Plan) -> bool
+    ensures { λ r. ⌜ r ≡ validRanges plan ⌝ }
+{
+    let kind = plan.kind;
+    if kind == CREDIT {
+        return is_for_lots(plan, limits::LARGEST_AOQL);
+    }
+    if kind == LEVEL {
+        return is_for_lots(plan, limits::VERIFICATION_LEVELS);
+    }
+    if kind == CONTINUOUS {
+        return is_for_blocks(plan);
+    }
+    false
+}
+
+// Whether the plan may have its ceiling: only a credit plan sets one.
+fn has_ceiling(plan: Plan) -> bool
+    ensures { λ r. ⌜ r ≡ validCeiling plan ⌝ }
+{
+    if plan.kind == CREDIT {
+        return plan.ceiling <= limits::LARGEST_CEILING;
+    }
+    plan.ceiling == 0
+}
+
+// What refusal 5 leaves of a plan for lots, whose A is at most so large, but for the ceiling.
 fn is_for_lots(plan: Plan, most: u32) -> bool
     ensures { λ r. ⌜ r ≡ within 1 most (plan .a) && eqb (plan .b) 0 && leb (plan .option) 1 ⌝ }
 {
@@ -63,7 +80,7 @@ fn is_for_lots(plan: Plan, most: u32) -> bool
     plan.option <= 1
 }
 
-// What refusal 5 leaves of a continuous plan.
+// What refusal 5 leaves of a continuous plan, but for the ceiling.
 fn is_for_blocks(plan: Plan) -> bool
     ensures { λ r. ⌜ r ≡ within 1 largestClearance (plan .a) && within 2 largestInterval (plan .b) && eqb (plan .option) 0 ⌝ }
 {

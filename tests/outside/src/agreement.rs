@@ -5,7 +5,7 @@
 use crate::{at, same, Make};
 use reference::{
     area_at, area_bytes, call_on_store, figures, header, plain_frames, read_area, record_at, Caller, Entry, Frame, Random, Station,
-    AREA, CREDIT, FULL, LOT, NEWEST, OPEN, RECORD, RECORDS_FROM, STOP, STORE, STREAMS,
+    AREA, CONTINUOUS, CREDIT, FULL, LARGEST_CEILING, LEVEL, LOT, NEWEST, OPEN, RECORD, RECORDS_FROM, STOP, STORE, STREAMS,
 };
 
 // Damage is done after every so many calls of a list, so many times.
@@ -38,8 +38,9 @@ pub fn agrees(make: Make, seed: u64, calls: usize, compared: &mut Compared) -> R
     Ok(())
 }
 
-/// Makes calls where random ones hardly get: stores of another length; a sample without a rest, with one wrong more than it; a number
-/// whose low bytes would do; a recording whose number is 0 and whose second is not; a count whose low bytes would do.
+/// Makes calls where random ones hardly get: stores of another length; a ceiling just above the range, and the largest; a sample without
+/// a rest, with one wrong more than it; a number whose low bytes would do; a recording whose number is 0 and whose second is not; a count
+/// whose low bytes would do.
 pub fn agrees_at_edges(make: Make, compared: &mut Compared) -> Result<(), String> {
     for length in [0, STORE - 1, STORE + 1] {
         for frame in plain_frames(0) {
@@ -47,7 +48,11 @@ pub fn agrees_at_edges(make: Make, compared: &mut Compared) -> Result<(), String
         }
     }
     let calls = [
-        (OPEN, [CREDIT, 0, 10_000, 0, 0, 0, 0]),
+        (OPEN, [LEVEL, 0, 1, 0, 1, 0, 0]),
+        (OPEN, [CONTINUOUS, 0, 10, 4, 1 << 24, 0, 0]),
+        (OPEN, [CREDIT, 0, 10_000, 0, LARGEST_CEILING + 1, 0, 0]),
+        (OPEN, [CREDIT, 0, 10_000, 0, LARGEST_CEILING, 0, 0]),
+        (OPEN, [CREDIT, 0, 10_000, 0, LARGEST_CEILING + 1, 0, 0]),
         (LOT, [1, 9_900, 99, 100, 100, 1, 0]),
         (STOP, [1 << 24 | 1, 2, 0, 0, 0, 0, 0]),
         (LOT, [1, 9_900, 99, 0, 0, 0, 1]),
@@ -79,9 +84,10 @@ fn on_damaged(make: Make, caller: &mut Caller, store: &[u8], stream: u32, compar
     let station = caller.station(stream).expect("a stream").clone();
     for _ in 0..DAMAGES {
         let mut area = store[area_at(stream)].to_vec();
-        match caller.random.below(6) {
+        match caller.random.below(7) {
             0 => add_stop(&mut area, station.entries.len()),
             1 | 2 => change_byte(&mut caller.random, &mut area, station.entries.len()),
+            3 => area = area_bytes(&with_another_ceiling(&mut caller.random, station.clone())),
             _ => area = area_bytes(&forged(&mut caller.random, station.clone())),
         }
         match read_area(&area) {
@@ -119,6 +125,14 @@ fn change_byte(random: &mut Random, area: &mut [u8], entries: usize) {
         1 => area[at] ^ 1 << random.below(8),
         _ => random.byte(),
     };
+}
+
+// A ceiling that the plan may have, under which the samples of the standing lots are others, or that it may not have.
+fn with_another_ceiling(random: &mut Random, mut station: Station) -> Station {
+    if let Some(plan) = &mut station.plan {
+        plan.ceiling = random.pick(&[0, 1, 100, 10_000, LARGEST_CEILING, LARGEST_CEILING + 1]);
+    }
+    station
 }
 
 // Entries as no calls would leave them, or as others would; the figures are made to fit them.

@@ -1,12 +1,16 @@
 //! What an area's bytes are, and ways to change them.
 
-use reference::{area_at, header, record, record_at, Place, Random, AREA, FULL, RECORD, RECORDS_FROM, STREAMS};
+use reference::{
+    area_at, header, record, record_at, Place, Random, AREA, CONTINUOUS, CREDIT, FULL, LARGEST_CEILING, LEVEL, RECORD,
+    RECORDS_FROM, STREAMS,
+};
 
 /// Parts of which one byte may be changed so that some other list of calls could have left the area.
-pub const SOUND_BY_ONE_BYTE: [&str; 15] = [
+pub const SOUND_BY_ONE_BYTE: [&str; 16] = [
     "option",
     "A",
     "B",
+    "ceiling",
     "lot: label",
     "lot: N",
     "lot: d",
@@ -25,8 +29,10 @@ pub const SOUND_BY_ONE_BYTE: [&str; 15] = [
 pub const ALWAYS_SOUND_BY_ONE_BYTE: [&str; 3] = ["lot: second", "run: second", "block: second"];
 
 /// Parts whose bytes are zero in every sound area.
-pub const NEVER_SOUND_BY_ONE_BYTE: [&str; 6] = [
+pub const NEVER_SOUND_BY_ONE_BYTE: [&str; 8] = [
     "unused",
+    "no ceiling, level",
+    "no ceiling, continuous",
     "unused numbers of a record",
     "zero bytes of a record",
     "stop: recording",
@@ -57,8 +63,21 @@ pub fn part(area: &[u8], byte: usize) -> &'static str {
         let (k, byte) = ((byte - RECORDS_FROM) / RECORD, (byte - RECORDS_FROM) % RECORD);
         return record_part(&area[record_at(k)], byte);
     }
+    if header::CEILING.contains(byte) {
+        return ceiling_part(area);
+    }
     let part = HEADER.into_iter().find(|(_, place)| place.contains(byte));
     part.map_or("unused", |(name, _)| name)
+}
+
+/// "only credit plans may set it"
+fn ceiling_part(area: &[u8]) -> &'static str {
+    match header::KIND.get(area) as u32 {
+        CREDIT => "ceiling",
+        LEVEL => "no ceiling, level",
+        CONTINUOUS => "no ceiling, continuous",
+        _ => "unused",
+    }
 }
 
 fn record_part(bytes: &[u8], byte: usize) -> &'static str {
@@ -97,7 +116,9 @@ fn record_part(bytes: &[u8], byte: usize) -> &'static str {
 }
 
 /// Changes of a whole area that may leave it sound.
-pub const SOUND_AS_A_WHOLE: [&str; 9] = [
+pub const SOUND_AS_A_WHOLE: [&str; 11] = [
+    "another ceiling",
+    THE_LARGEST_CEILING,
     "two neighbouring records swapped",
     "N moved from one lot to another",
     "N, credit and accepted raised",
@@ -109,13 +130,19 @@ pub const SOUND_AS_A_WHOLE: [&str; 9] = [
     ANOTHER_AREA,
 ];
 
-/// The changes that always do: a lot, run or block may have any recording but 0, and an area does not know its stream.
-pub const ALWAYS_SOUND: [&str; 2] = [ANOTHER_RECORDING, ANOTHER_AREA];
+/// The changes that always do: a lot, run or block may have any recording but 0, an area does not know its stream, and no credit before a
+/// lot is above the largest ceiling, which so leaves every sample as it is without one.
+pub const ALWAYS_SOUND: [&str; 3] = [ANOTHER_RECORDING, ANOTHER_AREA, THE_LARGEST_CEILING];
 const ANOTHER_RECORDING: &str = "another recording";
 const ANOTHER_AREA: &str = "another stream's area";
+const THE_LARGEST_CEILING: &str = "the largest ceiling in place of none";
 
-/// Changes that never leave an area sound: a recording is found exactly where a lot, run or block stands.
-pub const NEVER_SOUND: [&str; 7] = [
+/// Changes that never leave an area sound: a recording is found exactly where a lot, run or block stands, and a ceiling in range only on a
+/// credit plan.
+pub const NEVER_SOUND: [&str; 10] = [
+    "a ceiling above the range",
+    "a ceiling put on a level plan",
+    "a ceiling put on a continuous plan",
     "recording number 0",
     "recording lost",
     "a recording put on a stop",
@@ -127,11 +154,12 @@ pub const NEVER_SOUND: [&str; 7] = [
 
 /// Changes an area with so many records in one way of many, and names it. The store is where other areas are.
 pub fn change(random: &mut Random, count: usize, area: &mut [u8], store: &[u8]) -> &'static str {
-    match random.below(11) {
+    match random.below(12) {
         0 => change_all(random, area, store),
         1..=3 => change_header(random, count, area),
         4..=5 if count > 0 => change_number(random, count, area),
         6..=7 => change_recording(random, count, area),
+        8 => change_ceiling(random, area),
         _ if count > 0 => change_records(random, count, area),
         _ => change_header(random, count, area),
     }
@@ -182,6 +210,28 @@ fn change_header(random: &mut Random, count: usize, area: &mut [u8]) -> &'static
             area[random.below(RECORDS_FROM)] = 1;
             "header lost"
         }
+    }
+}
+
+/// The ceiling: 1, the largest, some in range, the first above it and others; of a plan that may have one, and of others.
+fn change_ceiling(random: &mut Random, area: &mut [u8]) -> &'static str {
+    let kind = header::KIND.get(area) as u32;
+    let had_none = header::CEILING.get(area) == 0;
+    let ceiling = match random.below(5) {
+        0 => 1,
+        1 => LARGEST_CEILING,
+        2 => random.range(0, LARGEST_CEILING),
+        3 => random.range(0, 2_000),
+        _ => random.pick(&[LARGEST_CEILING + 1, 1 << 31, u32::MAX]),
+    };
+    header::CEILING.put(area, ceiling.into());
+    match kind {
+        CREDIT if ceiling > LARGEST_CEILING => "a ceiling above the range",
+        CREDIT if ceiling == LARGEST_CEILING && had_none => THE_LARGEST_CEILING,
+        CREDIT => "another ceiling",
+        LEVEL => "a ceiling put on a level plan",
+        CONTINUOUS => "a ceiling put on a continuous plan",
+        _ => "a ceiling put on no plan",
     }
 }
 

@@ -1,5 +1,5 @@
 //! Areas whose bytes were changed: refusal 3 exactly where the reference reads the area as unsound, with every byte kept; where it
-//! is sound still (another label, another limit, another recording), the answers, parts and bytes of that other area.
+//! is sound still (another label, another limit or ceiling, another recording), the answers, parts and bytes of that other area.
 
 use crate::changes::{
     change, part, ALWAYS_SOUND, ALWAYS_SOUND_BY_ONE_BYTE, NEVER_SOUND, NEVER_SOUND_BY_ONE_BYTE, SOUND_AS_A_WHOLE, SOUND_BY_ONE_BYTE,
@@ -8,14 +8,14 @@ use crate::{said, Done, Setting};
 use outside::{at, hands_back, make, same};
 use reference::{
     answer, area_at, area_bytes, call_of, call_on_store, newest_part, plain_frames, read_area, Call, Caller, Frame, Random,
-    Station, AREA, FULL, LOT, NEWEST, STORE, STREAMS,
+    Station, AREA, CREDIT, FULL, LOT, NEWEST, STORE, STREAMS,
 };
 use std::collections::BTreeMap;
 
 /// Every byte of sound areas of each plan and option, at so many entries.
 const DEPTHS: [usize; 9] = [0, 1, 2, 3, 6, 12, 30, 70, FULL];
-/// Credit and level with option 0 and 1, continuous.
-const PLANS: usize = 5;
+/// Credit with option 0 and 1, each without and with a ceiling, level with option 0 and 1, continuous.
+const PLANS: usize = 7;
 /// So many calls in a list whose areas are changed as a whole.
 const CALLS: usize = 40_000;
 
@@ -108,9 +108,9 @@ impl Met {
     }
 }
 
-/// Sound stations of each plan and option at each depth, as random calls leave them.
+/// Sound stations of each of the plans at each depth, as random calls leave them.
 fn stations(seed: u64, times: usize) -> Vec<Station> {
-    let mut found: BTreeMap<(u32, u32, usize), Vec<Station>> = BTreeMap::new();
+    let mut found: BTreeMap<(u32, u32, bool, usize), Vec<Station>> = BTreeMap::new();
     let mut wanted = PLANS * DEPTHS.len() * times;
     for list in 0.. {
         let mut caller = Caller::new(seed + list, CALLS, 255);
@@ -121,8 +121,9 @@ fn stations(seed: u64, times: usize) -> Vec<Station> {
                 continue;
             };
             let Some(plan) = station.plan else { continue };
-            let alike = found.entry((plan.kind, plan.option, station.entries.len())).or_default();
-            if DEPTHS.contains(&station.entries.len()) && alike.len() < times {
+            let (depth, has_ceiling) = (station.entries.len(), plan.kind == CREDIT && plan.ceiling > 0);
+            let alike = found.entry((plan.kind, plan.option, has_ceiling, depth)).or_default();
+            if DEPTHS.contains(&depth) && alike.len() < times {
                 alike.push(station.clone());
                 wanted -= 1;
             }

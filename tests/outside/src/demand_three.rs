@@ -1,8 +1,8 @@
 //! Demand 3 and the backward rules, at run time. The test keeps each stream's standing list itself, from the calls, their arguments
 //! and their refusal numbers, never off the bytes. At many points it makes the accepted Open and the standing entries on another
 //! fresh store, through the library: the stream's area must be the same there, every next call must give the same, the newest records
-//! too, the figures in the bytes must be those that paper 01's backward rules read off the list, and the recordings in the bytes those
-//! that the standing entries brought.
+//! too, the figures in the bytes must be those that paper 01's backward rules read off the list, and the ceiling and the recordings in the
+//! bytes those that the Open and the standing entries brought.
 
 use crate::{said, Done, Setting};
 use outside::{at, first_difference, make, newest, same};
@@ -30,18 +30,19 @@ pub fn test(setting: &Setting) -> Result<Done, String> {
         entries,
         deepest,
         recordings,
+        passed_ceilings,
         figures,
     } = tally;
-    if deepest < FULL || recordings == 0 || figures.contains(&0) {
+    if deepest < FULL || recordings == 0 || passed_ceilings == 0 || figures.contains(&0) {
         return Err(format!(
-            "too little was met: deepest {deepest}, recordings {recordings}, figures {figures:?}"
+            "too little was met: deepest {deepest}, recordings {recordings}, ceilings passed {passed_ceilings}, figures {figures:?}"
         ));
     }
     let [credits, windows, cs, phases, tails] = figures;
     let what = format!(
         "{replays} standing lists of {entries} entries, {recordings} of them with a recording, the longest {deepest}, made again on a \
-         fresh store, each with {NEXT} next calls and the newest records on both, {}; read backwards and not 0: credit {credits}, \
-         window {windows}, c {cs}, phase {phases}, u {tails} times",
+         fresh store, each with {NEXT} next calls and the newest records on both, {}; read backwards and not 0: credit {credits}, above \
+         its ceiling {passed_ceilings}, window {windows}, c {cs}, phase {phases}, u {tails} times",
         said(&seeds)
     );
     Ok(Done { calls, what })
@@ -54,6 +55,8 @@ struct Tally {
     entries: usize,
     deepest: usize,
     recordings: usize,
+    /// Credits above the ceiling of their plan.
+    passed_ceilings: usize,
     /// Credit, window, c, phase and u that were not 0.
     figures: [usize; 5],
 }
@@ -127,6 +130,7 @@ fn check(caller: &mut Caller, store: &[u8], stream: u32, standing: &Standing, ta
     }
     tally.calls += same_parts(stream, standing.entries.len() as u32, store, &other)?;
     tally.recordings += recordings(standing, &store[area.clone()])?;
+    tally.passed_ceilings += usize::from(passes_ceiling(standing, &store[area.clone()])?);
     next_calls(caller, stream, store.to_vec(), other)?;
     if let Some(plan) = standing.plan() {
         backward(&plan, &standing.entries(), &store[area], tally)?;
@@ -188,6 +192,16 @@ fn recordings(standing: &Standing, area: &[u8]) -> Result<usize, String> {
         found += usize::from(brought.is_some());
     }
     Ok(found)
+}
+
+/// The ceiling in the bytes is the accepted Open's, whatever was called since. Gives whether the credit has grown past it.
+fn passes_ceiling(standing: &Standing, area: &[u8]) -> Result<bool, String> {
+    let opened = standing.plan().map_or(0, |plan| u64::from(plan.ceiling));
+    let stored = header::CEILING.get(area);
+    if stored != opened {
+        return Err(format!("the ceiling is {stored} in the bytes, {opened} in the Open"));
+    }
+    Ok(opened > 0 && header::CREDIT.get(area) > opened)
 }
 
 /// Whichever call on this stream follows gives the same on both stores, and leaves the same area.

@@ -1,4 +1,4 @@
-//! Areas whose records were forged and whose figures fit them, so that the replay alone can find what is unsound.
+//! Areas whose records or ceiling were forged and whose figures fit them, so that the replay alone can find what is unsound.
 
 use crate::{said, Done, Setting};
 use outside::agreement::{agrees, agrees_at_edges, Compared};

@@ -21,7 +21,7 @@ pub fn make(store: &mut [u8], frame: &Frame) -> Answer {
     let stream = frame.stream;
     let [a, b, c, d, e, recording, second] = frame.args;
     numbers(match frame.call {
-        OPEN => listening::open(store, stream, a, b, c, d),
+        OPEN => listening::open(store, stream, a, b, c, d, e),
         LOT => listening::lot(store, stream, a, b, c, d, e, recording, second),
         RUN => listening::run(store, stream, a, b, recording, second),
         BLOCK => listening::block(store, stream, a, b, recording, second),

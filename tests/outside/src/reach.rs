@@ -1,11 +1,14 @@
 //! What random calls reached: every refusal that a call can give, every verdict, move and restoration. A test that no longer
 //! reaches one of them has gone blind, and fails.
 
-use reference::{call_of, figures, Answer, Call, Entry, Figures, Frame, Plan, Recording, Station, CONTINUOUS, CREDIT, FULL, LEVEL};
+use reference::{
+    answer, call_of, figures, sample, Answer, Call, Entry, Figures, Frame, Plan, Recording, Station, CONTINUOUS, CREDIT, FULL,
+    LARGEST_CEILING, LEVEL,
+};
 use std::collections::BTreeMap;
 
-/// Paper 01, Calls, and paper 02, card 1: what each call can be refused for on a store of the right length whose areas are sound; 0 is
-/// acceptance.
+/// Paper 01, Calls, and paper 02, cards 1 and 3: what each call can be refused for on a store of the right length whose areas are sound;
+/// 0 is acceptance.
 const REFUSALS: [(u32, &[u32]); 9] = [
     (1, &[0, 2, 4, 5]),
     (2, &[0, 2, 6, 7, 8, 9, 10, 11, 12, 13, 17]),
@@ -19,7 +22,7 @@ const REFUSALS: [(u32, &[u32]); 9] = [
 ];
 
 /// What an accepted call, or a refusal that depends on more than one state, can meet.
-const STATES: [&str; 82] = [
+const STATES: [&str; 95] = [
     "credit: accepted",
     "credit: all heard, no credit before",
     "credit: all heard by option 1, credit lost",
@@ -102,6 +105,19 @@ const STATES: [&str; 82] = [
     "newest: all 128",
     "newest: discontinued",
     "newest: sampling",
+    "ceiling: opened",
+    "ceiling: opened, the largest",
+    "ceiling: refused by 5, credit",
+    "ceiling: refused by 5, level",
+    "ceiling: refused by 5, continuous",
+    "ceiling: refused by 4, which comes before 5",
+    "ceiling: above the credit, the sample the same",
+    "ceiling: a larger sample, asked",
+    "ceiling: a larger sample, accepted",
+    "ceiling: a larger sample, all heard",
+    "ceiling: a larger sample, returned",
+    "ceiling: the sample without it, refused by 12",
+    "ceiling: passed by the credit",
 ];
 
 pub struct Reach {
@@ -125,7 +141,11 @@ impl Reach {
     /// A call that was made, its answer, the station before and after it.
     pub fn see(&mut self, frame: &Frame, answer: &Answer, before: &Station, after: &Station) {
         self.see_refusal(frame, answer[0]);
-        let (Some(plan), Some(call)) = (before.plan, call_of(frame)) else {
+        let call = call_of(frame).expect("a call");
+        if let Call::Open(plan) = call {
+            self.count(opened(&plan, answer[0]));
+        }
+        let Some(plan) = before.plan else {
             return;
         };
         let seen = Seen {
@@ -135,7 +155,14 @@ impl Reach {
             is: figures(&plan, &after.entries),
             left: after.entries.len(),
         };
-        for state in seen.states(&call, answer) {
+        self.count(seen.states(&call, answer));
+        if plan.ceiling > 0 {
+            self.count(seen.under_ceiling(&call, answer));
+        }
+    }
+
+    fn count(&mut self, states: impl IntoIterator<Item = &'static str>) {
+        for state in states {
             *self.states.get_mut(state).expect("a listed state") += 1;
         }
     }
@@ -229,6 +256,35 @@ impl Seen<'_> {
             states.push(["full: credit", "full: level", "full: continuous"][self.plan.kind as usize - 1]);
         }
         states
+    }
+
+    /// What an Ask or a lot met on a credit stream with a ceiling: document 004, clause 10, note 1.
+    fn under_ceiling(&self, call: &Call, answer: &Answer) -> Option<&'static str> {
+        let without = |size: u32| {
+            let plan = Plan {
+                ceiling: 0,
+                ..*self.plan
+            };
+            sample(&plan, &self.was, size)
+        };
+        match (*call, *answer) {
+            (Call::Ask { size }, [0, n, ..]) if n > without(size) => Some("ceiling: a larger sample, asked"),
+            (Call::Lot { size, n, .. }, [0, verdict, ..]) if n > without(size) => Some(
+                [
+                    "ceiling: a larger sample, accepted",
+                    "ceiling: a larger sample, all heard",
+                    "ceiling: a larger sample, returned",
+                ][verdict as usize - 1],
+            ),
+            (Call::Lot { size, n, .. }, [12, ..]) if n == without(size) => Some("ceiling: the sample without it, refused by 12"),
+            (Call::Ask { .. }, [0, ..]) if self.was.credit > 0 && self.was.credit < self.plan.ceiling => {
+                Some("ceiling: above the credit, the sample the same")
+            }
+            (Call::Lot { .. }, [0, ..]) if self.was.credit <= self.plan.ceiling && self.is.credit > self.plan.ceiling => {
+                Some("ceiling: passed by the credit")
+            }
+            _ => None,
+        }
     }
 
     fn lot(&self, verdict: u32) -> Vec<&'static str> {
@@ -374,6 +430,25 @@ impl Seen<'_> {
             (self.was.phase == 1, "newest: sampling"),
         ];
         met.into_iter().filter(|(is, _)| *is).map(|(_, state)| state).collect()
+    }
+}
+
+/// What the ceiling of an Open led to, by its refusal; of a refused one only where 5 applies for the ceiling alone.
+fn opened(plan: &Plan, refusal: u32) -> Option<&'static str> {
+    let is_refused = |ceiling| answer(&mut Station::default(), Call::Open(Plan { ceiling, ..*plan }))[0] != 0;
+    match (refusal, plan.ceiling) {
+        (_, 0) => None,
+        (0, LARGEST_CEILING) => Some("ceiling: opened, the largest"),
+        (0, _) => Some("ceiling: opened"),
+        (_, ceiling) if is_refused(0) || !is_refused(ceiling) => None,
+        (4, _) => Some("ceiling: refused by 4, which comes before 5"),
+        _ => Some(
+            [
+                "ceiling: refused by 5, credit",
+                "ceiling: refused by 5, level",
+                "ceiling: refused by 5, continuous",
+            ][plan.kind as usize - 1],
+        ),
     }
 }
 

@@ -8,9 +8,10 @@ use reference::{Answer, Caller, Random, LOT, NEWEST, OPEN, READ, STORE};
 const STORES: u64 = 40;
 const LISTS: usize = 400;
 
-/// The places of the arguments that a call does not have, from Open on. A recording has the last two places; a stop has none.
+/// The places of the arguments that a call does not have, from Open on. A recording has the last two places; an Open and a stop have
+/// none.
 const UNUSED: [&[usize]; NEWEST as usize] = [
-    &[4, 5, 6],
+    &[5, 6],
     &[],
     &[2, 3, 4],
     &[2, 3, 4],

@@ -22,7 +22,7 @@ const fn place(at: usize, length: usize) -> Place {
     Place { at, length }
 }
 
-/// Paper 01, The store: the area offsets before the records. Bytes in none of them are zero.
+/// Paper 01, The store: the area offsets before the records, and the ceiling's of paper 02, card 3. Bytes in none of them are zero.
 pub mod header {
     use super::{place, Place};
 
@@ -40,6 +40,7 @@ pub mod header {
     pub const PHASE: Place = place(28, 1);
     pub const U: Place = place(30, 2);
     pub const ACCEPTED: Place = place(32, 8);
+    pub const CEILING: Place = place(40, 4);
 }
 
 /// The same of a record: kind, flag, two zero bytes, four numbers, and the number and start second of the recording.
@@ -113,6 +114,7 @@ fn put_header(bytes: &mut [u8], plan: &Plan, station: &Station) {
     header::PHASE.put(bytes, figures.phase.into());
     header::U.put(bytes, figures.u.into());
     header::ACCEPTED.put(bytes, figures.accepted);
+    header::CEILING.put(bytes, plan.ceiling.into());
 }
 
 fn put_record(bytes: &mut [u8], entry: &Entry) {
@@ -148,6 +150,7 @@ pub fn read_area(bytes: &[u8]) -> Option<Station> {
         option: header::OPTION.get(bytes) as u32,
         a: header::A.get(bytes) as u32,
         b: header::B.get(bytes) as u32,
+        ceiling: header::CEILING.get(bytes) as u32,
     };
     if count > FULL || answer(&mut station, Call::Open(plan))[0] != 0 {
         return None;

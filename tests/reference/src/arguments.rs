@@ -3,7 +3,7 @@
 
 use crate::calls::{newest_label, Frame, ARGUMENTS, ASK, BLOCK, LOT, NEWEST, OPEN, RUN, STOP};
 use crate::random::Random;
-use crate::station::{sample, verdict, Figures, Plan, Station, CONTINUOUS, CREDIT, FULL, LEVEL};
+use crate::station::{sample, verdict, Figures, Plan, Station, CONTINUOUS, CREDIT, FULL, LARGEST_CEILING, LEVEL};
 use std::array;
 
 pub type Args = [u32; ARGUMENTS];
@@ -34,7 +34,7 @@ impl Mood {
 /// A call with arguments that are good on some stream.
 pub fn plain_frame(call: u32, stream: u32) -> Frame {
     let args = match call {
-        OPEN => [CREDIT, 0, 15_000, 0, 0, 0, 0],
+        OPEN => [CREDIT, 0, 15_000, 0, 300, 0, 0],
         LOT => [1, 201, 51, 0, 0, 1, 0],
         RUN | BLOCK => [1, 0, 0, 0, 0, 1, 0],
         STOP => [1, 4, 0, 0, 0, 0, 0],
@@ -92,7 +92,7 @@ pub fn any_plan_args(random: &mut Random) -> Args {
 
 pub fn plan_args(random: &mut Random, kind: u32) -> Args {
     match kind {
-        CREDIT => [CREDIT, random.range(0, 1), limit(random), 0, 0, 0, 0],
+        CREDIT => [CREDIT, random.range(0, 1), limit(random), 0, ceiling(random), 0, 0],
         LEVEL => [LEVEL, u32::from(random.chance(3, 5)), random.range(1, 7), 0, 0, 0, 0],
         _ => [CONTINUOUS, 0, clearance(random), interval(random), 0, 0, 0],
     }
@@ -103,6 +103,28 @@ fn limit(random: &mut Random) -> u32 {
         0 => random.pick(&[1, 2, 10_000, 15_000, 20_000, 499_999, 500_000]),
         1 => random.range(1, 500_000),
         _ => some_bits(random, 18),
+    }
+}
+
+/// None; small ones, below a lot's size or passed by the credit after some lots; and large ones, the largest more often.
+fn ceiling(random: &mut Random) -> u32 {
+    match random.below(8) {
+        0 => 0,
+        1 => LARGEST_CEILING,
+        2 => random.pick(&[1, 2, 50, 100, LARGEST_CEILING - 1]),
+        3 | 4 => random.range(1, 2_000),
+        5 | 6 => some_bits(random, 22),
+        _ => random.range(1, LARGEST_CEILING),
+    }
+}
+
+/// A ceiling that a plan of this kind may not have, also where its low bytes would do: above the range, or any but 0.
+fn bad_ceiling(random: &mut Random, kind: u32) -> u32 {
+    let above = [LARGEST_CEILING + 1, LARGEST_CEILING + 2, 1 << 27, 1 << 31, u32::MAX];
+    if kind == CREDIT || random.chance(1, 2) {
+        random.pick(&above)
+    } else {
+        random.pick(&[1, 100, 256, 65_536, 1 << 24, LARGEST_CEILING])
     }
 }
 
@@ -133,14 +155,15 @@ fn some_bits(random: &mut Random, most: u32) -> u32 {
 pub fn bad_plan_args(random: &mut Random) -> Args {
     let mut args = any_plan_args(random);
     for _ in 0..random.range(1, 2) {
-        match random.below(7) {
+        match random.below(8) {
             0 => args[0] = random.pick(&[0, 4, 255, 256, 257, 258, 259, u32::MAX]),
             1 => args[1] = random.pick(&[1, 2, 255, 256, 257, u32::MAX]),
             2 => args[2] = random.pick(&[0, 8, 500_001, 10_001, 263, u32::MAX]),
             3 => args[3] = random.pick(&[0, 1, 2, 201, 200, 65_536, 65_538, u32::MAX]),
             4 => args[3] = 1,
             5 => args[2] = 0,
-            _ => args[random.below(4)] = random.odd(),
+            6 => args[4] = bad_ceiling(random, args[0]),
+            _ => args[random.below(5)] = random.odd(),
         }
     }
     args
@@ -219,7 +242,7 @@ pub fn lot_args(random: &mut Random, plan: &Plan, station: &Station, now: &Figur
     };
     let asked = sample(plan, &judged, size.clamp(2, 1_000_000)).min(size.max(1));
     let n = if faults.contains(&Fault::Sample) {
-        wrong_sample(random, plan, asked, size)
+        wrong_sample(random, plan, &judged, asked, size)
     } else {
         asked
     };
@@ -247,13 +270,17 @@ fn lot_label(random: &mut Random, newest: Option<u32>, again: bool) -> u32 {
     }
 }
 
-/// Mostly not the sample asked: one off, that of another level or of no credit, the whole lot.
-fn wrong_sample(random: &mut Random, plan: &Plan, asked: u32, size: u32) -> u32 {
-    match random.below(5) {
+/// Mostly not the sample asked: one off, that without the ceiling, that of another level or of no credit, the whole lot.
+fn wrong_sample(random: &mut Random, plan: &Plan, judged: &Figures, asked: u32, size: u32) -> u32 {
+    match random.below(6) {
         0 => asked.wrapping_sub(1),
         1 => asked + 1,
         2 => random.odd(),
         3 => size,
+        4 => {
+            let unlimited = Plan { ceiling: 0, ..*plan };
+            sample(&unlimited, judged, size.clamp(2, 1_000_000))
+        }
         _ => {
             let elsewhere = Figures {
                 level: random.range(0, 2),

@@ -1,6 +1,8 @@
 //! The nine calls on one stream whose area is sound.
 
-use crate::station::{enter, figures, sample, verdict, Entry, Figures, Plan, Recording, Station, CONTINUOUS, CREDIT, FULL, LEVEL};
+use crate::station::{
+    enter, figures, sample, verdict, Entry, Figures, Plan, Recording, Station, CONTINUOUS, CREDIT, FULL, LARGEST_CEILING, LEVEL,
+};
 
 /// The refusal number, then the three numbers.
 pub type Answer = [u32; 4];
@@ -76,7 +78,13 @@ pub fn call_of(frame: &Frame) -> Option<Call> {
     let [.., number, second] = frame.args;
     let recording = Recording { number, second };
     match (frame.call, frame.args) {
-        (OPEN, [kind, option, a, b, 0, 0, 0]) => Some(Call::Open(Plan { kind, option, a, b })),
+        (OPEN, [kind, option, a, b, ceiling, 0, 0]) => Some(Call::Open(Plan {
+            kind,
+            option,
+            a,
+            b,
+            ceiling,
+        })),
         (LOT, [label, size, n, d, all, _, _]) => Some(Call::Lot {
             label,
             size,
@@ -140,14 +148,7 @@ fn open(station: &mut Station, plan: Plan) -> Outcome {
     if station.plan.is_some() {
         return Err(4);
     }
-    let Plan { kind, option, a, b } = plan;
-    let good = match kind {
-        CREDIT => (1..=500_000).contains(&a) && b == 0 && option <= 1,
-        LEVEL => (1..=7).contains(&a) && b == 0 && option <= 1,
-        CONTINUOUS => (1..=10_000).contains(&a) && (2..=200).contains(&b) && option == 0,
-        _ => false,
-    };
-    if !good {
+    if !is_good(&plan) {
         return Err(5);
     }
     *station = Station {
@@ -155,6 +156,23 @@ fn open(station: &mut Station, plan: Plan) -> Outcome {
         entries: Vec::new(),
     };
     Ok([0, 0, 0])
+}
+
+/// What 5 leaves. Paper 02, card 3: "only credit plans may set" a ceiling.
+fn is_good(plan: &Plan) -> bool {
+    let Plan {
+        kind,
+        option,
+        a,
+        b,
+        ceiling,
+    } = *plan;
+    match kind {
+        CREDIT => (1..=500_000).contains(&a) && b == 0 && option <= 1 && ceiling <= LARGEST_CEILING,
+        LEVEL => (1..=7).contains(&a) && b == 0 && option <= 1 && ceiling == 0,
+        CONTINUOUS => (1..=10_000).contains(&a) && (2..=200).contains(&b) && option == 0 && ceiling == 0,
+        _ => false,
+    }
 }
 
 fn on_open_stream(station: &mut Station, plan: &Plan, call: Call) -> Outcome {

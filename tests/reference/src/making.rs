@@ -123,7 +123,12 @@ impl Caller {
     fn on_unopened(&mut self, s: usize) -> (u32, Args) {
         let random = &mut self.random;
         if self.made >= self.open_after[s] && random.chance(1, 4) {
-            return (OPEN, plan_args(random, self.kinds[s]));
+            let mut args = plan_args(random, self.kinds[s]);
+            // of the streams of one kind every other one has no ceiling, so that a list has credit streams of both sorts
+            if (s / 3).is_multiple_of(2) {
+                args[4] = 0;
+            }
+            return (OPEN, args);
         }
         if random.chance(2, 3) {
             return (OPEN, bad_plan_args(random));

@@ -49,10 +49,20 @@ pub fn level_sample(vl: u32, level: u32, size: u32) -> u32 {
     table_two(code_letter(size, vl))[column].min(size)
 }
 
-/// N / ((K + N) a + 1), rounded up, with a = A millionths.
-pub fn credit_sample(a: u32, credit: u32, size: u32) -> u32 {
+/// Document 004, clause 10, note 1: the smaller of K and Kmax. Paper 02, card 3: a Kmax of 0 is none, and all of K is usable.
+pub fn usable_credit(credit: u32, ceiling: u32) -> u32 {
+    if ceiling == 0 {
+        credit
+    } else {
+        credit.min(ceiling)
+    }
+}
+
+/// Document 004, clause 10, note 1: N / ([min(K, Kmax) + N] a + 1), rounded up, with a = A millionths, for the usable credit
+/// min(K, Kmax).
+pub fn credit_sample(a: u32, usable: u32, size: u32) -> u32 {
     let top = u128::from(size) * 1_000_000;
-    let bottom = (u128::from(credit) + u128::from(size)) * u128::from(a) + 1_000_000;
+    let bottom = (u128::from(usable) + u128::from(size)) * u128::from(a) + 1_000_000;
     let mut n = top / bottom;
     if n * bottom < top {
         n += 1;

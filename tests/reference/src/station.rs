@@ -1,6 +1,6 @@
 //! A stream: its plan, its standing entries, and the figures that these give, entry after entry.
 
-use crate::samples::{credit_sample, level_sample};
+use crate::samples::{credit_sample, level_sample, usable_credit};
 
 /// So many records may stand.
 pub const FULL: usize = 128;
@@ -10,12 +10,17 @@ pub const CREDIT: u32 = 1;
 pub const LEVEL: u32 = 2;
 pub const CONTINUOUS: u32 = 3;
 
+/// Paper 02, card 3: a ceiling is at most this.
+pub const LARGEST_CEILING: u32 = 128_000_000;
+
 #[derive(Clone, Copy, Debug, PartialEq, Eq)]
 pub struct Plan {
     pub kind: u32,
     pub option: u32,
     pub a: u32,
     pub b: u32,
+    /// Paper 02, card 3: Kmax, the most of a credit that counts for a sample; 0 where there is no such limit.
+    pub ceiling: u32,
 }
 
 /// Paper 02, card 1: the raw recording that a lot, run or block was heard on, and the second of it at which the entry starts.
@@ -93,7 +98,7 @@ pub fn figures(plan: &Plan, entries: &[Entry]) -> Figures {
 /// The sample asked for a lot of this size, the stream being neither continuous nor discontinued.
 pub fn sample(plan: &Plan, figures: &Figures, size: u32) -> u32 {
     if plan.kind == CREDIT {
-        credit_sample(plan.a, figures.credit, size)
+        credit_sample(plan.a, usable_credit(figures.credit, plan.ceiling), size)
     } else {
         level_sample(plan.a, figures.level, size)
     }

@@ -1,4 +1,4 @@
--- The run and the two blocks are in range, as their contracts compute; the two numbers are then the theorem's third part.
+-- The run and the two blocks are in range, as their contracts compute; the two numbers are then the theorem's fourth part.
 use native.Mathlib.Omega.{arith}
 use Rattle.plans.specs.Continuous.{screening, afterBlock}
 use Rattle.cases.proofs.Theorem.{proved-cases}
@@ -21,7 +21,7 @@ add-t7 c = rw (c .before .before .before .before .block .ensures, c .before .bef
 
 returns : tie.Need-returns
 unfolding continuousCases cleared rightBlock wrongBlock givenIn statedIn
-returns c = cc (proved-cases .2)
+returns c = cc (proved-cases .3)
 
 pub continuous-cases-spec : {M : Type 1} → statement M
 continuous-cases-spec = tie.close (tie.spec (λ c κs. search needs) run-requires (λ c κs. search needs) (λ c κs. search needs) add-t6 add-t7 returns)

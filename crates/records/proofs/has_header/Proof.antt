@@ -112,7 +112,7 @@ returns-7 c =
     let accepted =
     number-compares 32 8 (f .accepted) area are-bytes (omega arith) (omega (arith, past-accepted .before .struct-known2 .given))
     (past-accepted .before .before .get-u64 .ensures) in
-    let unused = number-compares 40 8 0 area are-bytes (omega arith) (lit< tt) (c .get-u642 .ensures) in
+    let ceiling : Compares _ area 40 (part 40 8 (headerOf p n f)) = record { decides = c .has-ceiling .ensures p n f refl } in
     rw (
       not-false (past-plan .before .has-plan .result) (past-plan .if1 .left),
       eq-eqb _ _ (past-twelve .if2 .left),
@@ -121,7 +121,7 @@ returns-7 c =
       not-false (past-continuous .before .has-continuous .result) (past-continuous .if5 .left),
       eq-eqb _ _ (past-accepted .if6 .left),
     ) at
-    (both-compare (both-compare (both-compare (both-compare (both-compare (both-compare plan twelve refl) credit refl) level refl) continuous refl) accepted refl) unused refl .decides)
+    (both-compare (both-compare (both-compare (both-compare (both-compare (both-compare plan twelve refl) credit refl) level refl) continuous refl) accepted refl) ceiling refl .decides)
 
 pub has-header-spec : {M : Type 1} → statement M
 has-header-spec =

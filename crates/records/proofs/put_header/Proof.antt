@@ -16,8 +16,9 @@ put-plan-requires c κs = (search needs, plan-fits _ _ (c .before .before .pre .
 returns : tie.Need-returns
 unfolding headerOf bytes part
 returns c =
-    let at-unused = c .before .before in
-    let at-accepted = at-unused .before .before .before .before in
+    let at-last = c .before .before in
+    let at-ceiling = at-last .before .before .before .before in
+    let at-accepted = at-ceiling .before .before .before .before in
     let at-continuous = at-accepted .before .before .before .before in
     let at-level = at-continuous .before .before .before .before in
     let at-credit = at-level .before .before .before .before in
@@ -32,9 +33,10 @@ returns c =
     let level = then-written 0 _ _ _ credit (at-level .put-level .ensures p n) refl (omega arith) in
     let continuous = then-written 0 _ _ _ level (at-continuous .put-continuous .ensures p n) refl (omega arith) in
     let accepted = then-written 0 _ _ _ continuous (at-accepted .put-u64 .ensures) refl (omega arith) in
-    then-written 0 _ _ _ accepted (at-unused .put-u642 .ensures) refl (omega arith)
+    let ceiling = then-written 0 _ _ _ accepted (at-ceiling .put-u323 .ensures) refl (omega arith) in
+    then-written 0 _ _ _ ceiling (at-last .put-u324 .ensures) refl (omega arith)
 
 pub put-header-spec : {M : Type 1} → statement M
 put-header-spec =
     tie.close
-    (tie.spec put-plan-requires (λ c κs. search needs) (λ c κs. search needs) (λ c κs. search needs) (λ c κs. search needs) (λ c κs. search needs) (λ c κs. search needs) (λ c. search needs) returns)
+    (tie.spec put-plan-requires (λ c κs. search needs) (λ c κs. search needs) (λ c κs. search needs) (λ c κs. search needs) (λ c κs. search needs) (λ c κs. search needs) (λ c κs. search needs) (λ c. search needs) returns)

@@ -1,9 +1,10 @@
--- A credit plan's sample is clause 10 a)'s, any other's Table 2's; that the plan is valid gives each function its ranges.
+-- A credit plan's sample is clause 10 a)'s under its ceiling, any other's Table 2's; that the plan is valid gives each function its ranges.
 use Rattle.model.proofs.Allowed.{plan-range, level-plan}
 use Rattle.model.specs.Figuring.{sampleAsked}
 use Rattle.model.specs.Stations.{isCredit}
 use native.Mathlib.Omega.{arith}
 use borrow.Author.Tests.{eq-eqb, ne-eqb}
+use Rattle.model.proofs.Booleans.{never-both}
 use Rattle.rules.proofs.asking.sample.Statement.{statement}
 use Rattle.rules.proofs.asking.sample.Tie as tie
 
@@ -12,7 +13,7 @@ sample-requires c κs = omega (arith, plan-range (c .before .before .before .arg
 
 returns : tie.Need-returns
 unfolding isCredit sampleAsked
-returns c = (simp (eq-eqb _ _ (c .before .before .if1 .taken)) (c .sample .ensures .0), c .sample .ensures .1 .1 .1)
+returns c = (simp (eq-eqb _ _ (c .before .before .if1 .taken)) (c .sample .ensures .0), ((λ credit. c .sample .ensures .1 .0), c .sample .ensures .1 .1 .1))
 
 sample-size-requires : tie.Need-sample-size-requires
 unfolding isCredit sampleAsked
@@ -20,7 +21,9 @@ sample-size-requires c κs = level-plan (c .before .before .before .args .plan) 
 
 returns-2 : tie.Need-returns-2
 unfolding isCredit sampleAsked
-returns-2 c = (simp (ne-eqb _ _ (c .before .before .if1 .left)) (c .sample-size .ensures .0), c .sample-size .ensures .1)
+returns-2 c =
+    let other = ne-eqb _ _ (c .before .before .if1 .left) in
+    (simp other (c .sample-size .ensures .0), ((λ credit. absurd (never-both _ credit other)), c .sample-size .ensures .1))
 
 pub sample-spec : {M : Type 1} → statement M
 sample-spec = tie.close (tie.spec sample-requires returns sample-size-requires returns-2)

@@ -8,6 +8,8 @@
 //!     lot 1 201 51 0 0 4711 90 -> 0 1 201 201
 //!                                the same with a recording, as a run and a block may have it: its number and its second, or neither,
 //!                                which is number 1, second 0
+//!     open 1 0 15000 0 100 -> 0 0 0 0
+//!                                an Open with a ceiling; without its fifth number the ceiling is 0, which is none
 //!     stream 3                   the lines up to the end of the case are about this stream; a case begins with stream 0
 //!     bytes 16 4 -> c9 00 00 00  so many bytes of the stream's area from this one on
 //!     sound -> 1                 whether the stream's area is sound

@@ -1,4 +1,4 @@
-//! The stored run of the program, crates/frames/stdin and stdout, made of cases of paper 01's file and of card 1's.
+//! The stored run of the program, crates/frames/stdin and stdout, made of cases of paper 01's file and of those of cards 1 and 3.
 
 use crate::notation::{has_put, Action, Case, Given, Step};
 use crate::{place, running};
@@ -6,7 +6,11 @@ use outside::at;
 use reference::{answer_line, line, NEWEST, NO_FRAME, OPEN};
 use std::fs;
 
-const CASES: [&str; 2] = ["tests/cases/paper-01.txt", "tests/cases/card-01.txt"];
+const CASES: [&str; 3] = [
+    "tests/cases/paper-01.txt",
+    "tests/cases/card-01.txt",
+    "tests/cases/card-03.txt",
+];
 const INPUT: &str = "crates/frames/stdin";
 const OUTPUT: &str = "crates/frames/stdout";
 
@@ -18,9 +22,9 @@ const IN_TURN: [&str; 17] = [
     "Hexadecimal frames: lines that are no frame",
     "Frames: 44 digits, a call's arguments without a recording, are no frame any more",
     "Table of proved cases: VL-2, normal and tightened",
-    "Table of proved cases: continuous, i 116, g 48",
     "A day on a credit stream with recordings",
     "A day on a continuous stream with recordings",
+    "A day on a credit stream with a ceiling",
     "Credit lots: a wrong lot without credit is heard whole, with credit it is returned",
     "Credit lots: with option 1 a wrong lot is heard whole even with credit, and the credit is lost",
     "Level lots: what ends reduced",
