@@ -1,2 +1,2 @@
--- Paper 01's table of proved cases.
+-- Paper 01's table of proved cases, and card 3's samples under a ceiling.
 pub mod Cases

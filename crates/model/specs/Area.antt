@@ -1,4 +1,4 @@
--- A station in the bytes of its area: paper 01, "The store", every offset. Assumes nothing.
+-- A station in the bytes of its area: paper 01, "The store", every offset, and paper 02, card 3, bytes 40 to 43. Assumes nothing.
 use Prim.Native.Nat.{ℕ, zero, suc, _*_, _-_}
 use mathlib.Core.Bool.{Bool, true, false, cond, _&&_}
 use mathlib.Core.List.{List, [], _∷_, _++_}

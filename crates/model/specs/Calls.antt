@@ -1,4 +1,4 @@
--- The calls on a station: paper 01, "Calls", and paper 02, card 1. Assumes nothing.
+-- The calls on a station: paper 01, "Calls", and paper 02, cards 1 and 3. Assumes nothing.
 use Prim.Native.Nat.{ℕ, _+_, _-_, min}
 use mathlib.Core.Bool.{Bool, true, false, cond, not, _&&_, _||_}
 use mathlib.Core.List.{List, [], _∷_, _++_}

@@ -355,8 +355,8 @@ abbrev pub FullAt128 : Type 0
 FullAt128 =
     (refusalOf (opened somePlan (stops 127)) (stop 1 0) ≡ 0) × (refusalOf (opened somePlan (stops 128)) (stop 1 0) ≡ 9)
 
--- "The store", byte for byte, with card 1's recording behind each record's numbers and card 3's ceiling: the area after the calls starts with
--- these bytes, and has zeros behind them
+-- "The store", byte for byte, with card 1's recording behind each record's numbers and card 3's ceiling: the area after the calls starts
+-- with these bytes, and has zeros behind them
 
 abbrev pub AreaStarts : List Call → List ℕ → Type 0
 AreaStarts calls bytes =

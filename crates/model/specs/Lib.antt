@@ -1,5 +1,5 @@
--- Paper 01, and paper 02 up to card 1, as definitions. In the order of reading: a station and its figures, its records, the calls on it, its
--- bytes, the calls on the store; then how far the figures reach, the figures worked out backwards, and what is claimed of it all.
+-- Paper 01, and cards 1 and 3 of paper 02, as definitions. In the order of reading: a station and its figures, its records, the calls on
+-- it, its bytes, the calls on the store; then how far the figures reach, the figures worked out backwards, and what is claimed of it all.
 pub mod Sizes
 pub mod Stations
 pub mod Figuring

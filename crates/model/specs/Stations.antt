@@ -1,4 +1,5 @@
--- Stations: a plan with Open's arguments, and the standing entries. Paper 01, "The store" and "Calls". Assumes nothing.
+-- Stations: a plan with Open's arguments, and the standing entries. Paper 01, "The store" and "Calls", and paper 02, cards 1 and
+-- 3. Assumes nothing.
 use Prim.Native.Nat.{ℕ, _^_}
 use mathlib.Core.Bool.{Bool, true, cond, _&&_}
 use mathlib.Core.List.{List, [], _∷_}
@@ -39,7 +40,7 @@ validRanges p =
     (cond (isLevel p) (within 1 verificationLevels (p .a) && eqb (p .b) 0 && leb (p .option) 1)
     (isContinuous p && within 1 largestClearance (p .a) && within 2 largestInterval (p .b) && eqb (p .option) 0))
 
--- paper 02, card 3: only a credit plan may set a ceiling
+-- paper 02, card 3: only a credit plan may set a ceiling, and none above the range
 unfoldable pub validCeiling : Plan → Bool
 validCeiling p = cond (isCredit p) (leb (p .ceiling) largestCeiling) (eqb (p .ceiling) 0)
 
@@ -47,7 +48,7 @@ validCeiling p = cond (isCredit p) (leb (p .ceiling) largestCeiling) (eqb (p .ce
 unfoldable pub validPlan : Plan → Bool
 validPlan p = validRanges p && validCeiling p
 
--- the arguments in the order of "Calls"; the recording comes last (paper 02, card 1), and so does the ceiling (card 3)
+-- the arguments in the order of "Calls", then those of paper 02: an entry's recording (card 1), Open's ceiling (card 3)
 unfoldable pub entryArguments : Entry → List ℕ
 entryArguments (Lot label N n d D rec) = label ∷ N ∷ n ∷ d ∷ D ∷ rec .number ∷ rec .second ∷ []
 entryArguments (Run h w rec) = h ∷ w ∷ rec .number ∷ rec .second ∷ []

@@ -1,5 +1,5 @@
-// The calls by number, paper 01, "Hexadecimal frames", and paper 02, cards 1 and 3: which number is which call, and which of its arguments it
-// uses.
+// The calls by number, paper 01, "Hexadecimal frames", and paper 02, cards 1 and 3: which number is which call, and which of its arguments
+// it uses.
 ghost use mathlib.Core.Path.{_≡_};
 ghost use Rattle.model.specs.Stations.{planOf};
 ghost use Rattle.numbering.specs.Numbers.{frameArguments, slot, recordingOf, uses, unusedZero, numbered};

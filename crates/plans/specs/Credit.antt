@@ -13,7 +13,8 @@ pub record LeastNotBelow (a b n : ℕ) : Type 0 where
   pub notBelow : a ≤ n * b
   pub least : (m : ℕ) → a ≤ m * b → n ≤ m
 
--- clause 10, note 1: the usable credit is the smaller of the credit K and the upper limit Kmax imposed on it; Kmax = 0 imposes none
+-- clause 10, note 1: the usable credit is the smaller of the credit K and the upper limit Kmax imposed on it; a Kmax of 0 imposes none
+-- (paper 02, card 3)
 unfoldable pub usableCredit : ℕ → ℕ → ℕ
 usableCredit K Kmax = cond (eqb Kmax 0) K (min K Kmax)
 

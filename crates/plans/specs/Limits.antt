@@ -1,7 +1,7 @@
--- What a range is, and the ranges that paper 01, "Calls", and paper 02 set to plans and entries, each under the refusal that keeps to it.
--- Four exported functions of this crate ask for more, each for what a refusal leaves: a run fits the clearance number (14), the detection
--- heard lies in its block (15), no more are wrong than the lot has (13), and a level's two counts are below 255, since at most 128 records
--- stand (9). Assumes nothing.
+-- What a range is, and the ranges that paper 01, "Calls", and paper 02, card 3, set to plans and entries, each under the refusal that keeps
+-- to it. Four exported functions of this crate ask for more, each for what a refusal leaves: a run fits the clearance number (14), the
+-- detection heard lies in its block (15), no more are wrong than the lot has (13), and a level's two counts are below 255, since at most
+-- 128 records stand (9). Assumes nothing.
 use Prim.Native.Nat.{ℕ, _*_}
 use mathlib.Core.Bool.{Bool, cond, _&&_}
 use lib.Dec.{leb}
@@ -37,7 +37,7 @@ largestLot = 1000000
 abbrev pub largestCredit : ℕ
 largestCredit = 128 * largestLot
 
--- 5: the upper limit Kmax that a credit plan may set on it (paper 02, card 3)
+-- 5: the largest upper limit Kmax on the usable credit of a credit plan (paper 02, card 3)
 abbrev pub largestCeiling : ℕ
 largestCeiling = 128000000
 

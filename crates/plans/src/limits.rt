@@ -1,5 +1,5 @@
-// What a range is, and the ranges that papers 01 and 02 set, once for all code; specs/Limits.antt has them for the definitions, with the refusal
-// of each.
+// What a range is, and the ranges that paper 01 and card 3 of paper 02 set, once for all code; specs/Limits.antt has them for the
+// definitions, with the refusal of each.
 ghost use mathlib.Core.Path.{_≡_};
 ghost use Rattle.plans.specs.Limits.{within as isWithin};
 

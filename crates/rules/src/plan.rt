@@ -22,7 +22,7 @@ pub const CONTINUOUS: u32 = 3;
 pub fn is_valid(plan: Plan) -> bool
     ensures { λ r. ⌜ r ≡ validPlan plan ⌝ }
 {
-    has_ranges(plan) & has_ceiling(plan)
+    is_in_ranges(plan) & may_have_ceiling(plan)
 }
 
 // The figures of a stream that has just been opened.
@@ -41,7 +41,7 @@ pub fn started(plan: Plan) -> Figures
 }
 
 // Whether A, B and the option are in the ranges of the plan's kind.
-fn has_ranges(plan: Plan) -> bool
+fn is_in_ranges(plan: Plan) -> bool
     ensures { λ r. ⌜ r ≡ validRanges plan ⌝ }
 {
     let kind = plan.kind;
@@ -58,7 +58,7 @@ fn has_ranges(plan: Plan) -> bool
 }
 
 // Whether the plan may have its ceiling: only a credit plan sets one.
-fn has_ceiling(plan: Plan) -> bool
+fn may_have_ceiling(plan: Plan) -> bool
     ensures { λ r. ⌜ r ≡ validCeiling plan ⌝ }
 {
     if plan.kind == CREDIT {

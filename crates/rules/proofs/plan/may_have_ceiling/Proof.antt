@@ -6,14 +6,14 @@ use borrow.Author.Tests.{eq-eqb, ne-eqb}
 use Rattle.plans.specs.Limits.{largestCeiling}
 use Rattle.model.specs.declared.Plan.{Plan}
 use Rattle.model.specs.Stations.{isCredit, validCeiling}
-use Rattle.rules.proofs.plan.has_ceiling.Statement.{statement}
-use Rattle.rules.proofs.plan.has_ceiling.Tie as tie
+use Rattle.rules.proofs.plan.may_have_ceiling.Statement.{statement}
+use Rattle.rules.proofs.plan.may_have_ceiling.Tie as tie
 
 tested : (p : Plan) (credit : Bool) → eqb (p .kind) 1 ≡ credit → cond credit (leb (p .ceiling) largestCeiling) (eqb (p .ceiling) 0) ≡ validCeiling p
 unfolding isCredit validCeiling
 tested p credit is = rw is
 
-pub has-ceiling-spec : {M : Type 1} → statement M
-has-ceiling-spec =
+pub may-have-ceiling-spec : {M : Type 1} → statement M
+may-have-ceiling-spec =
     tie.close
     (tie.spec (λ c. tested _ true (eq-eqb _ _ (c .before .if1 .taken))) (λ c. tested _ false (ne-eqb _ _ (c .before .if1 .left))))

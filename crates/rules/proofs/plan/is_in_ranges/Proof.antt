@@ -2,8 +2,8 @@
 use Rattle.model.specs.Stations.{isCredit, isLevel, isContinuous, validRanges}
 use borrow.Author.Tests.{eq-eqb, ne-eqb}
 use borrow.Author.Needs.{needs}
-use Rattle.rules.proofs.plan.has_ranges.Statement.{statement}
-use Rattle.rules.proofs.plan.has_ranges.Tie as tie
+use Rattle.rules.proofs.plan.is_in_ranges.Statement.{statement}
+use Rattle.rules.proofs.plan.is_in_ranges.Tie as tie
 
 returns : tie.Need-returns
 unfolding isCredit isLevel isContinuous validRanges
@@ -21,5 +21,5 @@ returns-4 : tie.Need-returns-4
 unfolding isCredit isLevel isContinuous validRanges
 returns-4 c = simp (ne-eqb _ _ (c .before .before .if1 .left), ne-eqb _ _ (c .before .if2 .left), ne-eqb _ _ (c .if3 .left))
 
-pub has-ranges-spec : {M : Type 1} → statement M
-has-ranges-spec = tie.close (tie.spec (λ c κs. search needs) returns (λ c κs. search needs) returns-2 (λ c κs. search needs) returns-3 returns-4)
+pub is-in-ranges-spec : {M : Type 1} → statement M
+is-in-ranges-spec = tie.close (tie.spec (λ c κs. search needs) returns (λ c κs. search needs) returns-2 (λ c κs. search needs) returns-3 returns-4)
