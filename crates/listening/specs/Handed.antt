@@ -1,5 +1,5 @@
--- What the calls' functions hand to one another: the refusals before the area is looked at, what a call sees of a
--- stream, what a write asks, and what is handed back. Assumes nothing.
+-- What the calls' functions hand to one another: the refusals before the area is looked at, what a call sees of a stream, what a write
+-- asks, and what is handed back. Assumes nothing.
 use Prim.Native.Nat.{ℕ, _+_, _<_}
 use mathlib.Core.Path.{_≡_}
 use mathlib.Core.Bool.{cond, not}

@@ -1,6 +1,6 @@
-// The listening controller: the calls of paper 01, and of cards 1 and 3 of paper 02, on a lent store of sixteen streams. No call asks anything
-// of its caller: bad input gets a refusal number, and the store stays as it was. A call looks at its stream, which gives refusals 1, 2, 3
-// and 6 in one place; it tests its own refusals; an entry is then tried by the step of its plan; and what changed is written in the
+// The listening controller: the calls of paper 01, and of cards 1 and 3 of paper 02, on a lent store of sixteen streams. No call asks
+// anything of its caller: bad input gets a refusal number, and the store stays as it was. A call looks at its stream, which gives refusals
+// 1, 2, 3 and 6 in one place; it tests its own refusals; an entry is then tried by the step of its plan; and what changed is written in the
 // stream's area.
 ghost use mathlib.Core.Path.{_≡_};
 ghost use Prim.Native.Nat.{_+_, _≤_, _<_, min};

@@ -1,5 +1,5 @@
--- Stations: a plan with Open's arguments, and the standing entries. Paper 01, "The store" and "Calls", and paper 02, cards 1 and
--- 3. Assumes nothing.
+-- Stations: a plan with Open's arguments, and the standing entries. Paper 01, "The store" and "Calls", and paper 02, cards 1 and 3. Assumes
+-- nothing.
 use Prim.Native.Nat.{ℕ, _^_}
 use mathlib.Core.Bool.{Bool, true, cond, _&&_}
 use mathlib.Core.List.{List, [], _∷_}
