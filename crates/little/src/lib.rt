@@ -2,6 +2,8 @@
 //
 // The contracts cite `specs/Little.antt`; `proofs/Laws.antt` has the laws of its definitions. A number is read as one flat sum of
 // its bytes, which is compiled to one load.
+#![tactic(auto)]
+
 ghost use Rattle.std.specs.Prelude.{◌≡◌, ◌+◌, ◌≤◌, ◌<◌, length, get_or};
 ghost use Rattle.little.specs.Little.{bytes, value, part, written};
 

@@ -1,5 +1,7 @@
 // Sampling by variables: a sample of measured levels, judged by the k and F criteria of document 000 (ISO 28594), 5.1.2.3.4. Nothing here
 // knows of the store: the measurements are lent, and the answer is a struct.
+#![tactic(auto)]
+
 ghost use Rattle.std.specs.Prelude.{◌≡◌};
 ghost use Rattle.measuring.specs.Judging.{refused, judged, judgement, limit_given, f_given};
 ghost use Rattle.measuring.specs.Working.{Judgeable};

@@ -1,5 +1,7 @@
 // The numbers of ISO 28593 (credit) and ISO 28594 (levels, continuous sampling), as paper 01 condenses them: every sample
 // size, and every move of a stream's figures. Nothing here knows of bytes or calls.
+#![tactic(auto)]
+
 pub mod continuous;
 pub mod credit;
 pub mod level;
