@@ -1,5 +1,7 @@
 // Paper 01's table of proved cases, and card 3's samples under a ceiling, worked out by the code of plans. Each contract is the table's own
 // numbers.
+#![tactic(auto)]
+
 ghost use Rattle.std.specs.Prelude.{◌≡◌, ◌≤◌};
 ghost use Rattle.cases.specs.Cases.{credit_cases, ceiling_cases, level_cases, continuous_cases, stated_in, ProvedCases};
 ghost use Rattle.plans.specs.Credit.{credit_sample};

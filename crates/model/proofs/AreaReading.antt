@@ -1,7 +1,7 @@
 -- The area of a station that calls can have left is read back as that station, and an area that is read is its station's.
 -- Assumes nothing.
-use Prim.Native.Nat.{ℕ, ◌+◌, ◌*◌, ◌-◌, ◌^◌, ◌≤◌, ◌<◌}
-use mathlib.Core.Path.{◌≡◌, refl, ap, ap₂}
+use Prim.Native.Nat.{ℕ, suc, ◌+◌, ◌*◌, ◌-◌, ◌^◌, ◌≤◌, ◌<◌}
+use mathlib.Core.Path.{◌≡◌, refl, ap, ap₂, ◌∙◌}
 use mathlib.Core.Bool.{Bool, true, false, ◌&&◌}
 use mathlib.Core.List.{List, [], ◌∷◌, ◌++◌, append_assoc}
 use native.Mathlib.Omega.{arith}
@@ -154,6 +154,12 @@ unfolding part
 part_record e es rest =
     rw (drop_at (records_of es) _ _ (length_records es)) (take_at (record_bytes (record_of e)) rest _ (length_record (record_of e)))
 
+-- one record more is read behind those before it
+next_read : (p : Plan) (bs : List ℕ) (n : ℕ) (e : Entry) (es : List Entry) → entries_in p bs n ≡ es
+    → entry_of p (figures_of p es) (record_in (part (record_length * n) record_length bs)) ≡ e → entries_in p bs (suc n) ≡ e ∷ es
+unfolding entries_in
+next_read p bs n e es others newest = rw (others, newest)
+
 pub entries_read : (p : Plan) (es : List Entry) (rest : List ℕ) → T (admissible p es)
     → entries_in p (records_of es ++ rest) (length es) ≡ es
 unfolding entries_in records_of
@@ -161,8 +167,12 @@ entries_read p [] rest t = refl
 entries_read p (e ∷ es) rest t =
     let newest = newest_of_lem p e es t in
     let others = entries_read p es (record_bytes (record_of e) ++ rest) newest.others in
-    rw (append_assoc (records_of es) (record_bytes (record_of e)) rest, others, part_record e es rest)
-    (ap (λ (e : Entry). e ∷ es) (entry_read p (figures_of p es) (length es) e newest.allowed newest.words))
+    let whole = append_assoc (records_of es) (record_bytes (record_of e)) rest in
+    next_read p _ (length es) e es
+    (ap (λ (bs : List ℕ). entries_in p bs (length es)) whole ∙ others)
+    (ap (λ (bs : List ℕ). entry_of p (figures_of p es) (record_in (part (record_length * length es) record_length bs))) whole
+    ∙ ap (λ (bs : List ℕ). entry_of p (figures_of p es) (record_in bs)) (part_record e es rest)
+    ∙ entry_read p (figures_of p es) (length es) e newest.allowed newest.words)
 
 -- ---- the whole area
 

@@ -1,5 +1,7 @@
 // A station, as paper 01 has it: its plan, its standing entries, the figures that follow from them, and the calls on it. The
 // meaning is in specs/; this crate makes no call on a store.
+#![tactic(auto)]
+
 pub mod claims;
 pub mod sizes;
 
