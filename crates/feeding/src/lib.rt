@@ -14,7 +14,7 @@ use frame_text::{BAD_LENGTH, FRAME_LENGTH, LINE_FEED, TEXT_LENGTH};
 use numbering::Frame;
 
 // How many bytes the unfinished line has, and how many bytes of text are written.
-#[derive(Drop)]
+#[derive(Clone, Copy)]
 pub struct Fed {
     pub have: usize,
     pub wrote: usize,

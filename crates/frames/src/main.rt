@@ -17,7 +17,7 @@ const OUT_LENGTH: usize = frame_text::TEXT_LENGTH * PIECE_LENGTH;
 
 // What a turn leaves: how many bytes the unfinished line has, how many bytes of text are to be printed, whether there may be more
 // input, and whether it came to its end.
-#[derive(Drop)]
+#[derive(Clone, Copy)]
 struct Turn {
     have: usize,
     wrote: usize,
@@ -26,7 +26,7 @@ struct Turn {
 }
 
 // How the program ended: whether the whole input was answered, and whether all text was written.
-#[derive(Drop)]
+#[derive(Clone, Copy)]
 struct Ended {
     whole: bool,
     written: bool,

@@ -11,7 +11,7 @@ use plans::credit::Credit;
 use plans::level::LevelState;
 
 // Open's arguments.
-#[derive(Drop)]
+#[derive(Clone, Copy)]
 pub struct Plan {
     // 1 credit, 2 level, 3 continuous
     pub kind: u32,
@@ -25,7 +25,7 @@ pub struct Plan {
 }
 
 // Where the raw recording behind an entry is found: paper 02, card 1.
-#[derive(Drop)]
+#[derive(Clone, Copy)]
 pub struct Recording {
     // 0 is no recording's
     pub number: u32,
@@ -34,7 +34,7 @@ pub struct Recording {
 }
 
 // What a call enters, with all of its arguments; the letters are paper 01's. A stop has no recording.
-#[derive(Drop)]
+#[derive(Clone, Copy)]
 pub enum Entry {
     Lot {
         label: u32,
@@ -69,7 +69,7 @@ pub enum Entry {
 }
 
 // A lot as its step takes it: without the sample, which is worked out, and the recording, at which no step looks.
-#[derive(Drop)]
+#[derive(Clone, Copy)]
 pub struct HeardLot {
     pub label: u32,
     // N
@@ -81,7 +81,7 @@ pub struct HeardLot {
 }
 
 // A record as it stands in the bytes, whatever its kind.
-#[derive(Drop)]
+#[derive(Clone, Copy)]
 pub struct Record {
     pub kind: u8,
     pub flag: u8,
@@ -95,7 +95,7 @@ pub struct Record {
 }
 
 // The calls: Open, the four that enter something, Back, Ask and Read; and the newest records (paper 02, card 1), so many.
-#[derive(Drop)]
+#[derive(Clone, Copy)]
 pub enum Call {
     Open(Plan),
     Enter(Entry),
@@ -107,7 +107,7 @@ pub enum Call {
 
 // What a call gives: its refusal number, 0 for none, and three numbers. It is laid out as C lays it out, to be handed over whole.
 #[repr(C)]
-#[derive(Drop)]
+#[derive(Clone, Copy)]
 pub struct Answer {
     pub refusal: u32,
     pub first: u32,
@@ -117,14 +117,14 @@ pub struct Answer {
 
 // A part of the store: where it starts, and how many bytes it has. It is laid out as C lays it out.
 #[repr(C)]
-#[derive(Drop)]
+#[derive(Clone, Copy)]
 pub struct Part {
     pub offset: usize,
     pub length: usize,
 }
 
 // A stream's figures.
-#[derive(Drop)]
+#[derive(Clone, Copy)]
 pub struct Figures {
     // the least label above the newest standing lot's, 0 where no lot stands
     pub above: u64,

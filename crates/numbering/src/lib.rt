@@ -1,5 +1,7 @@
 // The calls by number, paper 01, "Hexadecimal frames", and paper 02, cards 1 and 3: which number is which call, and which of its arguments
 // it uses.
+#![tactic(auto)]
+
 ghost use Rattle.std.specs.Prelude.{◌≡◌};
 ghost use Rattle.model.specs.Stations.{plan_of};
 ghost use Rattle.numbering.specs.Numbers.{frame_arguments, slot, recording_of, uses, unused_zero, numbered};
@@ -10,7 +12,7 @@ use model::{Call, Entry, Plan, Recording};
 pub const ARGUMENTS: usize = 7;
 
 // What numbers stand for: a call made on a stream, or none.
-#[derive(Drop)]
+#[derive(Clone, Copy)]
 pub enum Frame {
     Made { stream: u32, call: Call },
     Bad,

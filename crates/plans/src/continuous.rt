@@ -10,7 +10,7 @@ pub const SCREENING: u8 = 0;
 pub const SAMPLING: u8 = 1;
 
 // A continuous stream's state: bytes 24 to 31 of its area.
-#[derive(Drop)]
+#[derive(Clone, Copy)]
 pub struct Continuous {
     // screening count
     pub count: u32,
@@ -21,7 +21,7 @@ pub struct Continuous {
 }
 
 // What a block gives.
-#[derive(Drop)]
+#[derive(Clone, Copy)]
 pub struct Block {
     pub state: Continuous,
     pub accepted: u32,

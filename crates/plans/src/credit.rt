@@ -15,7 +15,7 @@ ghost use Rattle.plans.specs.Limits.{largest_credit, largest_lot, largest_aoql};
 use crate::{LotSize, SampleSize, verdict};
 
 // The credit K: detections accepted since a lot was last not accepted.
-#[derive(Drop)]
+#[derive(Clone, Copy)]
 pub struct Credit(pub u32);
 
 impl Credit {

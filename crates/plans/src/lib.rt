@@ -11,9 +11,9 @@ pub mod tables;
 pub mod verdict;
 
 // A lot's size N, in detections.
-#[derive(Drop)]
+#[derive(Clone, Copy)]
 pub struct LotSize(pub u32);
 
 // A sample's size n.
-#[derive(Drop)]
+#[derive(Clone, Copy)]
 pub struct SampleSize(pub u32);

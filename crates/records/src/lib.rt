@@ -1,6 +1,8 @@
 // One record and the header of a stream's area, between bytes and values: paper 01, "The store", and paper 02, cards 1 and 3.
 //
 // The offsets are those of model's specs/Records.antt and specs/Area.antt. Nothing here knows the list of entries, or a refusal.
+#![tactic(auto)]
+
 ghost use Rattle.std.specs.Prelude.{◌≡◌, ◌++◌, ℕ, ◌+◌, ◌-◌, ◌*◌, ◌≤◌, ◌<◌, T, length, drop};
 ghost use Rattle.little.specs.Little.{bytes, part, written};
 ghost use Rattle.model.specs.declared.Plan.{Plan};

@@ -15,7 +15,7 @@ use rules::plan;
 // What an area says. The refusal is that of every call but Open: 3 where the area is unsound, 6 where the stream is unopened. Where it is 0, the
 // stream is opened with this plan, and so many records stand; the figures are those before the newest records that a call sets apart,
 // and those now where it sets none apart.
-#[derive(Drop)]
+#[derive(Clone, Copy)]
 pub struct Standing {
     pub plan: Plan,
     pub figures: Figures,

@@ -38,20 +38,20 @@ use replaying::Entered;
 use rules::refusing;
 
 // What an entry of a continuous stream can change: what is left to be screened, the tail, and how many are accepted.
-#[derive(Drop)]
+#[derive(Clone, Copy)]
 struct Place {
     left: u32,
     tail: u16,
     accepted: u64,
 }
 
-#[derive(Drop)]
+#[derive(Clone, Copy)]
 enum Step {
     Stands(Place),
     Fails,
 }
 
-#[derive(Drop)]
+#[derive(Clone, Copy)]
 struct Outcome {
     stands: bool,
     place: Place,

@@ -19,7 +19,7 @@ use replaying::Entered;
 use rules::refusing;
 
 // What an entry of a credit stream can change.
-#[derive(Drop)]
+#[derive(Clone, Copy)]
 struct Carried {
     credit: Credit,
     accepted: u64,
@@ -27,14 +27,14 @@ struct Carried {
 }
 
 // An entry stands, and leaves these numbers; or it could not stand.
-#[derive(Drop)]
+#[derive(Clone, Copy)]
 enum Step {
     Stands(Carried),
     Fails,
 }
 
 // Whether a record stands, and the numbers after it, or those before it where it does not.
-#[derive(Drop)]
+#[derive(Clone, Copy)]
 struct Outcome {
     stands: bool,
     carried: Carried,

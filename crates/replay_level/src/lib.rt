@@ -20,20 +20,20 @@ use replaying::Entered;
 use rules::refusing;
 
 // What an entry of a level stream can change.
-#[derive(Drop)]
+#[derive(Clone, Copy)]
 struct Carried {
     state: LevelState,
     accepted: u64,
     above: u64,
 }
 
-#[derive(Drop)]
+#[derive(Clone, Copy)]
 enum Step {
     Stands(Carried),
     Fails,
 }
 
-#[derive(Drop)]
+#[derive(Clone, Copy)]
 struct Outcome {
     stands: bool,
     carried: Carried,

@@ -7,7 +7,7 @@ use model::{Figures, Record};
 use plans::stops;
 
 // Records entered: whether each could stand there, and the figures after them.
-#[derive(Drop)]
+#[derive(Clone, Copy)]
 pub struct Entered {
     pub sound: bool,
     pub figures: Figures,
