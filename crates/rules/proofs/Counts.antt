@@ -23,8 +23,8 @@ use Rattle.model.proofs.Allowed.{AllowedLot}
 use Rattle.model.proofs.FigureBounds.{lot_size_range}
 
 -- what a sample asks for: the size of a lot that passed refusal 11, and a credit that lots can have earned
-pub size_passed : (p : Plan) (N : ℕ) (r : Bool) → r ≡ size_in_range p N → not r ≡ false → (1 ≤ N) × (N ≤ largest_lot)
-size_passed p N r e passed = lot_size_range p N (sym e ∙ not-false r passed)
+pub size_passed : (p : Plan) (N : ℕ) (r : Bool) → r ≡ size_in_range p N → r ≡ true → (1 ≤ N) × (N ≤ largest_lot)
+size_passed p N r e passed = lot_size_range p N (sym e ∙ passed)
 
 pub credit_within : (f : Figures) (count : ℕ) → FiguresWithin count f → count ≤ most_records → f.credit.0 ≤ largest_credit
 credit_within f count within few = omega arith

@@ -1,0 +1,9 @@
+-- `records::get_plan` meets its contract: each number stands where `plan_in` reads it.
+-- Assumes nothing.
+use borrow.Author.Rules.{rules}
+use Rattle.model.specs.Area.{plan_in}
+use Rattle.records.proofs.get_plan.Goals as goal
+
+pub returns : goal.returns
+unfolding plan_in
+returns c = cc

@@ -1,0 +1,18 @@
+use borrow.Author.Count.{below_more}
+use borrow.Author.Tests.{eqb-true, eq-eqb}
+use mathlib.Core.Path.{◌≡◌, refl}
+use mathlib.Core.List.{List}
+use Prim.Native.Nat.{ℕ, ◌+◌, ◌-◌, ◌≤◌, ◌<◌}
+use native.Mathlib.Omega.{arith}
+use lib.Bits.{bit_or}
+use lib.ListN.{get_or}
+use Rattle.records.specs.Records.{ZeroBetween}
+use Rattle.records.proofs.Together.{no_bits}
+use Rattle.records.proofs.is_zero_in.Given as goal
+
+abbrev pub invariant-loop-i : goal.invariant-loop-i
+invariant-loop-i l =
+    (l.from ≤ l.i) × (l.i ≤ l.to) × (l.bits ≡ 0 → ZeroBetween l.area l.from l.i) × (ZeroBetween l.area l.from l.i → l.bits ≡ 0)
+
+abbrev pub decreases-loop-i : goal.decreases-loop-i
+decreases-loop-i l = l.to - l.i

@@ -1,0 +1,31 @@
+-- Each test in turn.
+use Rattle.rules.proofs.UpToLast.{in_turn}
+use Rattle.model.specs.Stations.{is_continuous}
+use Rattle.model.specs.Calls.{rule_refusals, is_full}
+use Rattle.rules.specs.Refusing.{RunUpToLast, earlier}
+use borrow.Author.Rules.{rules}
+use Rattle.rules.proofs.refusing.run.Goals as goal
+
+pub returns-then-plan-ne-CONTINUOUS : goal.returns-then-plan-ne-CONTINUOUS
+unfolding RunUpToLast earlier rule_refusals is_continuous is_full
+returns-then-plan-ne-CONTINUOUS c = search in_turn depth 12
+
+pub returns-then-count-ge-MOST_RECORDS : goal.returns-then-count-ge-MOST_RECORDS
+unfolding RunUpToLast earlier rule_refusals is_continuous is_full
+returns-then-count-ge-MOST_RECORDS c = search in_turn depth 12
+
+pub returns-then-right-gt-LONGEST_RUN : goal.returns-then-right-gt-LONGEST_RUN
+unfolding RunUpToLast earlier rule_refusals is_continuous is_full
+returns-then-right-gt-LONGEST_RUN c = search in_turn depth 12
+
+pub returns-then-wrong-gt1 : goal.returns-then-wrong-gt1
+unfolding RunUpToLast earlier rule_refusals is_continuous is_full
+returns-then-wrong-gt1 c = search in_turn depth 12
+
+pub returns-then-right-wrong-eq0 : goal.returns-then-right-wrong-eq0
+unfolding RunUpToLast earlier rule_refusals is_continuous is_full
+returns-then-right-wrong-eq0 c = search in_turn depth 12
+
+pub returns : goal.returns
+unfolding RunUpToLast earlier rule_refusals is_continuous is_full
+returns c = search in_turn depth 12
