@@ -2,10 +2,6 @@
 pub mod Heads
 pub mod RecordForm
 pub mod Parts
-pub mod Lent
-pub mod Carries
-pub mod Bringing
-pub mod Lending
 pub mod Turns
 pub mod LotStreams
 pub mod Tried

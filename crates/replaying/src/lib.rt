@@ -1,5 +1,7 @@
 // Reading an area record after record: what each record has to be, and what a replay of them knows. The loops themselves are in a
 // crate for each plan; here are the definitions and laws that they share.
+#![tactic(auto)]
+
 ghost use Rattle.std.specs.Prelude.{◌≡◌, not, ◌<◌};
 ghost use Rattle.replaying.specs.Replaying.{head_of, one_number, unrecorded, faultless, why_of};
 
