@@ -1,5 +1,4 @@
 -- Laws of a continuous stream's figures in three numbers.
-pub mod Carries
 pub mod Phases
 pub mod Accepting
 pub mod Steps

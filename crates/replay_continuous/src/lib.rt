@@ -7,6 +7,8 @@
 // What has a name that `replay_credit` has too is the same over a place in place of numbers, and is explained there.
 // Speed: what changes stays in three registers, and of `plans`' functions one subtraction is left; with the state itself a long stream takes
 // twice as long.
+#![tactic(auto)]
+
 ghost use Rattle.std.specs.Prelude.{◌≡◌, ◌≤◌};
 ghost use Rattle.little.specs.Little.{part};
 ghost use Rattle.model.specs.Sizes.{record_length};

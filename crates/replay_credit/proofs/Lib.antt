@@ -1,3 +1,2 @@
 -- Laws of a credit stream's replay.
 pub mod Steps
-pub mod Carries

@@ -2,6 +2,8 @@
 // entries do to its figures and of whether they may stand: the replay takes it for each record, a call for the entry that it is about to
 // write. What an entry can change is carried in three numbers; `specs/Carrying.antt` has the figures that they stand for.
 // Speed: the loop keeps the numbers in registers; with a step over the whole figures a record took 3 to 11 times as long.
+#![tactic(auto)]
+
 ghost use Rattle.std.specs.Prelude.{◌≡◌};
 ghost use Rattle.little.specs.Little.{part};
 ghost use Rattle.model.specs.Sizes.{record_length};

@@ -2,6 +2,8 @@
 // do to its figures and of whether they may stand: the replay takes it for each record, a call for the entry that it is about to write.
 // What an entry can change is carried in six numbers; `specs/Carrying.antt` has the figures that they stand for. What has a name that
 // `replay_credit` has too is the same over these numbers, and is explained there.
+#![tactic(auto)]
+
 ghost use Rattle.std.specs.Prelude.{◌≡◌, ◌≤◌};
 ghost use Rattle.little.specs.Little.{part};
 ghost use Rattle.plans.specs.Limits.{verification_levels};

@@ -1,0 +1,13 @@
+-- The place taken from the figures stands for them.
+use borrow.Author.Rules.{rules}
+use Rattle.replay_continuous.proofs.Steps.{calls}
+use Rattle.replay_continuous.proofs.enter_stop.Goals as goal
+
+pub place_from-requires : goal.place_from-requires
+place_from-requires c = search calls
+
+pub step_stop-requires : goal.step_stop-requires
+step_stop-requires c = search calls
+
+pub returns : goal.returns
+returns c = search calls

@@ -1,7 +1,0 @@
--- Field by field.
-use borrow.Author.Rules.{rules}
-use Rattle.replay_continuous.proofs.place_of.Statement.{statement}
-use Rattle.replay_continuous.proofs.place_of.Tie as tie
-
-pub place-of-spec : {M : Type 1} → statement M
-place-of-spec = tie.close (tie.spec (λ c κs. search rules) (λ c. cc))

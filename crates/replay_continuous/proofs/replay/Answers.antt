@@ -1,0 +1,32 @@
+-- What the loop keeps is `Ready` of the records that are left, at the figures of the place.
+use Prim.Native.Nat.{◌≤◌, ◌-◌}
+use native.Mathlib.Omega.{arith}
+use borrow.Author.Rules.{rules}
+use Rattle.replaying.specs.Replaying.{Ready}
+use Rattle.replay_continuous.specs.Places.{figures_in, told_as}
+use Rattle.replay_continuous.proofs.Steps.{loops}
+use Rattle.replay_continuous.proofs.replay.Goals as goal
+
+pub place_from-place-requires : goal.place_from-place-requires
+unfolding told_as
+place_from-place-requires c = search loops
+
+pub loop-i-init : goal.loop-i-init
+unfolding told_as
+loop-i-init c = search loops
+
+pub brought-next-requires : goal.brought-next-requires
+unfolding told_as
+brought-next-requires c = search loops
+
+pub returns-then-not-next : goal.returns-then-not-next
+unfolding told_as
+returns-then-not-next c = search loops
+
+pub loop-i-preserved : goal.loop-i-preserved
+unfolding told_as
+loop-i-preserved c = search loops
+
+pub returns : goal.returns
+unfolding told_as
+returns c = search loops

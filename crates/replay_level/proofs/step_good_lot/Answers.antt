@@ -1,0 +1,16 @@
+-- A lot with nothing wrong that may follow stands, and leaves every sum in range.
+use borrow.Author.Rules.{rules}
+use Rattle.replay_level.proofs.Steps.{steps}
+use Rattle.replay_level.proofs.step_good_lot.Goals as goal
+
+pub returns-then-not-may_follow : goal.returns-then-not-may_follow
+returns-then-not-may_follow c = search steps
+
+pub judge-after-requires : goal.judge-after-requires
+judge-after-requires c = search steps
+
+pub overflow_add-result : goal.overflow_add-result
+overflow_add-result c = search steps
+
+pub returns : goal.returns
+returns c = search steps

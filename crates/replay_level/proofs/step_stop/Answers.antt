@@ -1,0 +1,10 @@
+-- The step follows the test, and leaves the state that `plans` says.
+use borrow.Author.Rules.{rules}
+use Rattle.replay_level.proofs.Steps.{stops}
+use Rattle.replay_level.proofs.step_stop.Goals as goal
+
+pub returns-then-not-is_stop : goal.returns-then-not-is_stop
+returns-then-not-is_stop c = search stops
+
+pub returns : goal.returns
+returns c = search stops
