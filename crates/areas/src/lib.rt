@@ -1,5 +1,7 @@
 // What the calls write in one stream's area: a plan, one entry more, one entry less. Each function asks for a whole area, which `listening`
 // lends it out of the store; what the area says before, and which refusal a call gets, is not looked at here.
+#![tactic(auto)]
+
 ghost use Rattle.std.specs.Prelude.{◌≡◌, ◌+◌, ◌<◌, T, length};
 ghost use Rattle.little.specs.Little.{written};
 ghost use Rattle.model.specs.Sizes.{area_length, record_length, most_records};

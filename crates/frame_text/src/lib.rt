@@ -1,4 +1,6 @@
 // Hexadecimal frames, paper 01: a line of text as a call on a stream, and an answer as a line of text.
+#![tactic(auto)]
+
 pub mod claims;
 
 ghost use Rattle.std.specs.Prelude.{◌≡◌, ◌+◌, ◌<◌, ◌≤◌, T, length};

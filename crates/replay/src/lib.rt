@@ -1,4 +1,6 @@
 // Reading an area: its records are replayed by the loop of its plan, and its header and zeros compared with what they leave.
+#![tactic(auto)]
+
 ghost use Rattle.std.specs.Prelude.{◌≡◌, false, ℕ, ◌-◌, length, get_or};
 ghost use Rattle.model.specs.Sizes.{area_length};
 ghost use Rattle.model.specs.Area.{reading};

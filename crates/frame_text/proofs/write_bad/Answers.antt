@@ -7,24 +7,18 @@ use mathlib.Core.List.{[], ◌∷◌}
 use lib.ListN.{length-set}
 use native.Mathlib.Omega.{arith}
 use borrow.Author.Rules.{rules}
-use Rattle.frame_text.proofs.write_bad.Statement.{statement}
-use Rattle.frame_text.proofs.write_bad.Tie as tie
+use Rattle.frame_text.proofs.write_bad.Goals as goal
 
-slice-write-out-2 : tie.Need-slice-write-out-2
-slice-write-out-2 c = simp length-set (omega arith)
+pub bounds-out-at-2 : goal.bounds-out-at-2
+bounds-out-at-2 c = simp length-set (omega arith)
 
-slice-write-out-3 : tie.Need-slice-write-out-3
-slice-write-out-3 c = simp length-set (omega arith)
+pub bounds-out-at-3 : goal.bounds-out-at-3
+bounds-out-at-3 c = simp length-set (omega arith)
 
-returns : tie.Need-returns
+pub returns : goal.returns
 unfolding bad_text
 returns c =
     let at = c.args.at in
     let s = c.args.out.now in
     rw (set_written at 102 s (omega arith), store_on at 1 (102 ∷ []) s 102 refl (omega arith))
     (store_on at 2 (102 ∷ 102 ∷ []) s line_feed refl (omega arith))
-
-pub write-bad-spec : {M : Type 1} → statement M
-write-bad-spec =
-    tie.close
-    (tie.spec (λ c. search rules) (λ c. search rules) slice-write-out-2 (λ c. search rules) slice-write-out-3 (λ c. search rules) returns)

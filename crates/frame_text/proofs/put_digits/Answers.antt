@@ -10,14 +10,8 @@ use lib.ListN.{length, set, length-set, length-append}
 use lib.Seq.{drop-cons, take-set-le, drop-set-lt, get_or-set_same}
 use Rattle.little.specs.Little.{written}
 use Rattle.little.proofs.Laws.{written_nil}
-use Rattle.frame_text.proofs.put_digits.Statement.{statement}
-use Rattle.frame_text.proofs.put_digits.Tie as tie
-
-abbrev invariant-loop : tie.invariant-loop
-invariant-loop out₀ at width n rest₀ i₀ out rest i = (i ≤ width) × ((length out ≡ length out₀) × (written at (digits_of i rest) out ≡ written at (digits_of width n) out₀))
-
-abbrev decreases-loop : tie.decreases-loop
-decreases-loop out₀ at width n rest₀ i₀ out rest i = i
+use Rattle.frame_text.proofs.put_digits.Goals as goal
+use Rattle.frame_text.proofs.put_digits.Goals.{At-loop-i}
 
 -- storing a digit, and then writing those before it, writes them all
 write-before : (at : ℕ) (a s : List ℕ) (b : ℕ) → at + length a < length s → written at a (set s (at + length a) b) ≡ written at (a ++ (b ∷ [])) s
@@ -43,37 +37,17 @@ digit-before at (suc k) n s pos fits =
     let counted : length (digits_of k (n / 16)) ≡ k = length_digits k (n / 16) in
     rw less (rw counted at (write-before at (digits_of k (n / 16)) s (digit_of (n % 16)) (rw counted (omega arith))))
 
-loop-holds : tie.Need-loop-init invariant-loop decreases-loop
-loop-holds c = (omega arith, (refl, refl))
+pub loop-i-init : goal.loop-i-init
+loop-i-init c = (omega arith, (refl, refl))
 
-sub-i : tie.Need-overflow-sub-i invariant-loop decreases-loop
-sub-i c = omega arith
+pub loop-i-preserved : goal.loop-i-preserved
+loop-i-preserved c =
+    let inv = c.loop-i.invariant in
+    (omega arith, (rw length-set inv.1.0, rw c.digit_of.ensures (digit-before _ _ _ _ (omega arith) (omega arith) ∙ inv.1.1)))
 
-digit-of-requires : tie.Need-digit-of-requires invariant-loop decreases-loop
-digit-of-requires c κs = omega arith
-
-add-out : tie.Need-overflow-add-out invariant-loop decreases-loop
-add-out c = omega arith
-
-slice-write-out : tie.Need-slice-write-out invariant-loop decreases-loop
-slice-write-out c = omega arith
-
-loop-less : tie.Need-loop-smaller invariant-loop decreases-loop
-loop-less c = omega arith
-
-loop-again : tie.Need-loop-preserved invariant-loop decreases-loop
-loop-again c =
-    let inv = c.before.before.loop.invariant in
-    (omega arith, (rw length-set inv.1.0, rw c.digit-of.ensures (digit-before _ _ _ _ (omega arith) (omega arith) ∙ inv.1.1)))
-
-returns : tie.Need-returns invariant-loop decreases-loop
+pub returns : goal.returns
 unfolding digits_of
 returns c =
-    let at-loop = c.before in
-    let none : at-loop.loop.i ≡ 0 = omega arith in
-    sym (written_nil _ _) ∙ rw none at at-loop.loop.invariant.1.1
-
-pub put-digits-spec : {M : Type 1} → statement M
-put-digits-spec =
-    tie.close
-    (tie.spec invariant-loop decreases-loop loop-holds sub-i digit-of-requires add-out slice-write-out loop-less loop-again (λ c. search rules) returns)
+    let at-loop = (goal.at.returns c).At-loop-i in
+    let none : at-loop.loop-i.i ≡ 0 = omega arith in
+    sym (written_nil _ _) ∙ rw none at at-loop.loop-i.invariant.1.1

@@ -11,8 +11,7 @@ use Prim.Native.Nat.{ℕ, ◌+◌, ◌≤◌}
 use lib.ListN.{length, set, length-append}
 use native.Mathlib.Omega.{arith}
 use borrow.Author.Rules.{rules}
-use Rattle.frame_text.proofs.write_answer.Statement.{statement}
-use Rattle.frame_text.proofs.write_answer.Tie as tie
+use Rattle.frame_text.proofs.write_answer.Goals as goal
 
 -- four numbers and a line feed, one behind the other
 one_line : (at : ℕ) (r : Answer) (s : List ℕ) → at + text_length ≤ length s
@@ -40,34 +39,7 @@ one_line at r s fits =
     )
     (store_on at 26 three s line_feed three-length (omega arith))
 
-returns : tie.Need-returns
+pub returns : goal.returns
 returns c =
-    let fourth = c.before.before in
-    let third = fourth.before.before.before.before in
-    let second = third.before.before.before.before in
-    let first = second.before.before.before.before in
-    let args = first.before.before.before.args in
-    rw (fourth.put-digits4.ensures, third.put-digits3.ensures, second.put-digits2.ensures, first.put-digits.ensures)
-    (one_line args.at args.answer args.out.now (omega (arith, first.before.before.before.requires)))
-
--- the function's start, from behind the second number, and that place from the end
-abbrev start : tie.After-put-digits2 → tie.Start
-start c = c.before.before.before.before.before.before.before
-
-abbrev half : tie.After-slice-known5 → tie.After-put-digits2
-half c =
-    let fourth = c.before.before in
-    fourth.before.before.before.before.before.before.before.before
-
-same_length : tie.Need-same-length
-same_length c =
-    let args = (start (half c)).args in
-    ap length (returns c)
-    ∙ length_written args.at (answer_text args.answer) args.out.now
-    (omega (arith, (start (half c)).requires, length_answer args.answer))
-
-pub write-answer-spec : {M : Type 1} → statement M
-write-answer-spec =
-    tie.close
-    (tie.spec (λ c κs. search rules) (λ c. search rules) (λ c κs. search rules) (λ c. search rules) (λ c κs. search rules) (λ c. search rules)
-    (λ c κs. search rules) (λ c. search rules) (λ c. search rules) same_length returns)
+    rw (c.put_digits-4.ensures, c.put_digits-3.ensures, c.put_digits-2.ensures, c.put_digits.ensures)
+    (one_line c.args.at c.args.answer c.args.out.now (omega (arith, c.requires)))
