@@ -93,7 +93,7 @@ Put store stream s left x then =
 last_given : (store : List ℕ) (stream : ℕ) (s : Standing) (e : Entry) (x : Entered) (n : ℕ) (a : Answer) → s ≡ looked_at 0 stream store
     → a ≡ refused n → (n ≡ 0 → ⊥) → Behind store stream s e x n → keeps a store ≡ on_store store (on stream (Enter e))
 last_given store stream s e x n a seen given applies b =
-    let t = b.tried-so in
+    let t = b.tried_so in
     let opened = t.told.opened in
     on_kept store stream opened.whole opened.known (Enter e)
     (refused_last opened.at e t.told.said t.none t.room t.made b.said applies given)
@@ -101,7 +101,7 @@ last_given store stream s e x n a seen given applies b =
 -- none is: what changed is written
 module _ {store : List ℕ} {stream : ℕ} {s : Standing} {e : Entry} {x : Entered} {n : ℕ} (b : Behind store stream s e x n) (clear : n ≡ 0) where
   t : Tried store stream s e x
-  t = b.tried-so
+  t = b.tried_so
 
   opened : OpenedIn 0 store stream s
   opened = t.told.opened

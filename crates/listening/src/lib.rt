@@ -2,6 +2,8 @@
 // anything of its caller: bad input gets a refusal number, and the store stays as it was. A call looks at its stream, which gives refusals
 // 1, 2, 3 and 6 in one place; it tests its own refusals; an entry is then tried by the step of its plan; and what changed is written in the
 // stream's area.
+#![tactic(auto)]
+
 ghost use Rattle.std.specs.Prelude.{◌≡◌, ◌+◌, ◌≤◌, ◌<◌, min, T, length};
 ghost use Rattle.little.specs.Little.{written};
 ghost use Rattle.model.specs.declared.Entry.TheVariants.{Lot, Run, Block, Stop};

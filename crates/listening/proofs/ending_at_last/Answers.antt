@@ -1,0 +1,6 @@
+-- The area starts where `start_of` says.
+use borrow.Author.Rules.{rules}
+use Rattle.listening.proofs.ending_at_last.Goals as goal
+
+pub returns : goal.returns
+returns c = cc
