@@ -6,9 +6,8 @@ use native.Mathlib.Nat.{mul-le-mul}
 use native.Mathlib.Omega.{arith}
 use lib.ListN.{length, get_or}
 use lib.IntN.{ℤ, pos, ◌+ℤ◌, ◌*ℤ◌, nat_abs}
-use lib.Signed.{mag}
 use mir.Syntax.{w32, w64}
-use mir.Val.{SFits, to_z, of_z}
+use mir.Val.{SFits}
 use mir.ValLaws.{to_z-of_z}
 use Rattle.measuring.specs.Judging.{largest_level}
 use Rattle.measuring.specs.Working.{Ranged}
@@ -21,8 +20,8 @@ pub record Level (x : ℤ) : Type 0 where
   pub small : nat_abs x ≤ largest_level
 
 -- the i-th of measurements in range
-pub element : (xs : List ℤ) (i : ℕ) → Ranged xs → mag (get_or xs i (pos 0)) < 2 ^ 31 → Level (get_or xs i (pos 0))
-element xs i ranged short = record { fits = record { sfits = short }; small = level_at xs ranged.levels i }
+pub element : (xs : List ℤ) (i : ℕ) → Ranged xs → Level (get_or xs i (pos 0))
+element xs i ranged = let small = level_at xs ranged.levels i in record { fits = sized w32 (omega (arith, small)); small = small }
 
 module _ {x : ℤ} (level : Level x) where
   pub read_is : again w32 x ≡ x
@@ -48,18 +47,18 @@ module _ {x : ℤ} (level : Level x) where
 
 -- ---- one turn of each loop that sums, from what it has learnt
 
-module _ {xs : List ℤ} (ranged : Ranged xs) {i : ℕ} (here : i < length xs) (short : mag (get_or xs i (pos 0)) < 2 ^ 31) where
+module _ {xs : List ℤ} (ranged : Ranged xs) {i : ℕ} (here : i < length xs) where
   level : Level (get_or xs i (pos 0))
-  level = element xs i ranged short
+  level = element xs i ranged
 
   level_room : length xs * largest_level < 2 ^ 31
   level_room = omega (arith, ranged.few)
 
-  pub level_fits : {s : ℕ} → SumAt w32 (λ x. x) largest_level xs s i → SFits w32 (to_z w32 s +ℤ again w32 (get_or xs i (pos 0)))
-  level_fits inv = sum_fits inv here (read_is level) (read_size level) level_room
+  pub level_fits : {z : ℤ} → SumAt (λ x. x) largest_level xs z i → SFits w32 (z +ℤ again w32 (get_or xs i (pos 0)))
+  level_fits inv = sum_fits inv here (read_is level) (read_size level) w32 level_room
 
-  pub level_next : {s : ℕ} → SumAt w32 (λ x. x) largest_level xs s i → SumAt w32 (λ x. x) largest_level xs (of_z w32 (to_z w32 s +ℤ again w32 (get_or xs i (pos 0)))) (i + 1)
-  level_next inv = sum_next inv here (read_is level) (read_size level) level_room
+  pub level_next : {z : ℤ} → SumAt (λ x. x) largest_level xs z i → SumAt (λ x. x) largest_level xs (again w32 (z +ℤ again w32 (get_or xs i (pos 0)))) (i + 1)
+  level_next inv = sum_next inv here (read_is level) (read_size level) w32 level_room
 
   abbrev squared : ℤ
   squared = again w64 (again w64 (again w32 (get_or xs i (pos 0))) *ℤ again w64 (again w32 (get_or xs i (pos 0))))
@@ -67,8 +66,8 @@ module _ {xs : List ℤ} (ranged : Ranged xs) {i : ℕ} (here : i < length xs) (
   square_room : length xs * (largest_level * largest_level) < 2 ^ 63
   square_room = omega (arith, ranged.few)
 
-  pub square_fits : {s : ℕ} → SumAt w64 (λ x. x *ℤ x) (largest_level * largest_level) xs s i → SFits w64 (to_z w64 s +ℤ squared)
-  square_fits inv = sum_fits inv here (squared_is level) (squared_size level) square_room
+  pub square_fits : {z : ℤ} → SumAt (λ x. x *ℤ x) (largest_level * largest_level) xs z i → SFits w64 (z +ℤ squared)
+  square_fits inv = sum_fits inv here (squared_is level) (squared_size level) w64 square_room
 
-  pub square_next : {s : ℕ} → SumAt w64 (λ x. x *ℤ x) (largest_level * largest_level) xs s i → SumAt w64 (λ x. x *ℤ x) (largest_level * largest_level) xs (of_z w64 (to_z w64 s +ℤ squared)) (i + 1)
-  square_next inv = sum_next inv here (squared_is level) (squared_size level) square_room
+  pub square_next : {z : ℤ} → SumAt (λ x. x *ℤ x) (largest_level * largest_level) xs z i → SumAt (λ x. x *ℤ x) (largest_level * largest_level) xs (again w64 (z +ℤ squared)) (i + 1)
+  square_next inv = sum_next inv here (squared_is level) (squared_size level) w64 square_room

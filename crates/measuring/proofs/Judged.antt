@@ -1,10 +1,8 @@
 -- What refusal 18 leaves, and the judgement from what each function gave. Assumes nothing.
 use Prim.Native.Nat.{ℕ, ◌≤◌}
-use mathlib.Core.Path.{◌≡◌, refl, sym, ap, ◌∙◌}
-use mathlib.Core.Bool.{Bool, true, false, not, ◌&&◌}
+use mathlib.Core.Path.{◌≡◌, refl, sym, ap}
+use mathlib.Core.Bool.{Bool, true, ◌&&◌}
 use mathlib.Core.List.{List}
-use native.Mathlib.Omega.{arith}
-use borrow.Author.Tests.{not-true, not-false}
 use lib.Dec.{eqb}
 use lib.ListN.{length}
 use lib.IntN.{ℤ}
@@ -16,31 +14,11 @@ use Rattle.plans.proofs.Booleans.{both_true, within_of}
 use Rattle.measuring.specs.declared.Limit.{Limit}
 use Rattle.measuring.specs.declared.Limit.TheVariants.{Given, Absent}
 use Rattle.measuring.specs.declared.FConstant.{FConstant}
-use Rattle.measuring.specs.declared.Judgement.{Judgement}
 use Rattle.measuring.specs.declared.samples.Sample.{Sample}
 use Rattle.measuring.specs.Samples.{sample_of}
 use Rattle.measuring.specs.Criteria.{meets_k}
-use Rattle.measuring.specs.Judging.{
-  least_sample,
-  largest_sample,
-  largest_k,
-  are_levels,
-  limit_in_range,
-  f_in_range,
-  in_range,
-  outside,
-  to_upper,
-  to_lower,
-  k_met_at_upper,
-  k_met_at_lower,
-  k_met,
-  f_met,
-  is_specification,
-  refused,
-  judged,
-  judgement,
-}
-use Rattle.measuring.specs.Working.{Judgeable, Ranged, k_met_at}
+use Rattle.measuring.specs.Judging.{least_sample, largest_sample, largest_k, are_levels, limit_in_range, f_in_range, in_range, outside, to_upper, to_lower, k_met_at_upper, k_met_at_lower, k_met, f_met, judged}
+use Rattle.measuring.specs.Working.{Ranged, k_met_at}
 use Rattle.measuring.proofs.Sizes.{again}
 use Rattle.measuring.proofs.Inside.{below_upper_lem, above_lower_lem}
 
@@ -95,24 +73,3 @@ module _ (xs : List ℤ) (lower upper : Limit) (k : ℕ) (f : FConstant) {s : Sa
       ≡ judged xs lower upper k f
   unfolding judged
   judged_made = rw (k_is, to_z-of_z l-fits, to_z-of_z u-fits, o_is, l-is, u-is, f-is, s-is) refl
-
--- ---- the refusals in turn, for the search; t and u are what the two tests gave
-
-module _ (xs : List ℤ) (lower upper : Limit) (k : ℕ) (f : FConstant) (t : Bool) (t-is : t ≡ in_range xs lower upper k f) where
-  pub out_of_range : (r : Judgement) → not t ≡ true → r ≡ refused 18 → r ≡ judgement xs lower upper k f
-  unfolding judgement
-  out_of_range r fails is = rw (sym t-is, not-true t fails) is
-
-  module _ (holds : not t ≡ false) (u : Bool) (u-is : u ≡ is_specification lower upper f) where
-    pub no_specification : (r : Judgement) → not u ≡ true → r ≡ refused 19 → r ≡ judgement xs lower upper k f
-    unfolding judgement
-    no_specification r fails is = rw (sym t-is, not-false t holds, sym u-is, not-true u fails) is
-
-    pub may_judge : not u ≡ false → Judgeable xs lower upper k f
-    may_judge holds₂ = record { ranged = sym t-is ∙ not-false t holds; specified = sym u-is ∙ not-false u holds₂ }
-
-    pub is_judged : (r : Judgement) → not u ≡ false → r ≡ judged xs lower upper k f → r ≡ judgement xs lower upper k f
-    unfolding judgement
-    is_judged r holds₂ is = rw (sym t-is, not-false t holds, sym u-is, not-false u holds₂) is
-
-pub ruleset judging = (out_of_range, no_specification, is_judged)

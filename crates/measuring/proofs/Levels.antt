@@ -7,16 +7,12 @@ use lib.ListN.{get_or}
 use native.Mathlib.Omega.{arith}
 use lib.Dec.{leb, ltb}
 use borrow.Author.Tests.{leb-true, le-leb, lt-leb, ltb-true, ltb-false}
-use lib.IntN.{ℤ, pos, negsuc, neg_ℤ, nat_abs}
+use lib.IntN.{ℤ, pos, negsuc, nat_abs}
 use lib.Signed.{le_z, lt_z}
-use mir.Syntax.{w32}
-use mir.Val.{SFits}
-use mir.Facts.{to_z-of_z}
 use Rattle.plans.proofs.Booleans.{both_true}
 use Rattle.measuring.specs.declared.Limit.{Limit}
 use Rattle.measuring.specs.declared.Limit.TheVariants.{Given}
 use Rattle.measuring.specs.Judging.{largest_level, is_level, are_levels, limit_in_range}
-use Rattle.measuring.proofs.Sizes.{again}
 
 pub level_size : (x : ℤ) → is_level x ≡ true → nat_abs x ≤ largest_level
 unfolding is_level
@@ -52,13 +48,3 @@ not_aboveℤ (pos a) (pos b) = not_above a b
 not_aboveℤ (pos a) (negsuc b) = refl
 not_aboveℤ (negsuc a) (pos b) = refl
 not_aboveℤ (negsuc a) (negsuc b) = not_above b a
-
--- the two tests of a level, of the number as it is read
-module _ {x : ℤ} (fits : SFits w32 x) where
-  pub too_low : lt_z (again w32 x) (neg_ℤ (pos largest_level)) ≡ true → false ≡ is_level x
-  unfolding is_level
-  too_low e = rw (not_aboveℤ (neg_ℤ (pos largest_level)) x, rw (to_z-of_z fits) at e) refl
-
-  pub from_the_least : lt_z (again w32 x) (neg_ℤ (pos largest_level)) ≡ false → le_z (again w32 x) (pos largest_level) ≡ is_level x
-  unfolding is_level
-  from_the_least e = rw (to_z-of_z fits, not_aboveℤ (neg_ℤ (pos largest_level)) x, rw (to_z-of_z fits) at e) refl

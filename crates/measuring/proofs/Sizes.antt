@@ -79,7 +79,7 @@ casts is sign small = rw is (sign, Fits-of_lt small)
 -- a 32-bit number, widened to 64 bits
 module _ {z : ℤ} (short : SFits w32 z) where
   pub widened : again w64 (again w32 z) ≡ z
-  widened = ap (again w64) (to_z-of_z short) ∙ to_z-of_z (sfits_widen tt short)
+  widened = ap (again w64) (to_z-of_z short) ∙ to_z-of_z {w = w64} (sfits_widen tt short)
 
   pub widens : SFits w64 (again w32 z)
   widens = rw (to_z-of_z short) (sfits_widen tt short)

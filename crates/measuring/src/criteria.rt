@@ -69,6 +69,7 @@ pub(crate) fn to_lower(lower: Limit, sample: Sample) -> i32
 }
 
 // Whether a limit, where it is given, meets k at this distance, which is n times that of the mean.
+#[tactic(auto, unfolding(crate::specs::Working::k_met_at))]
 pub(crate) fn is_k_met(limit: Limit, k: u32, sample: Sample, distance: i32) -> bool
     requires { (Measured sample) × (k ≤ largest_k) × (nat_abs distance ≤ sample.count * (2 * largest_level)) }
     ensures { result ≡ k_met_at limit k sample distance }
@@ -80,6 +81,7 @@ pub(crate) fn is_k_met(limit: Limit, k: u32, sample: Sample, distance: i32) -> b
 }
 
 // Whether F is met, also where it is absent. It comes only with both limits (19).
+#[tactic(auto, unfolding(crate::specs::Judging::f_met))]
 pub(crate) fn is_f_met(lower: Limit, upper: Limit, f: FConstant, sample: Sample) -> bool
     requires { (Measured sample) × (limit_in_range lower ≡ true) × (limit_in_range upper ≡ true) × (f_in_range f ≡ true) × (is_specification lower upper f ≡ true) }
     ensures { result ≡ f_met lower upper f sample }
@@ -96,12 +98,14 @@ pub(crate) fn is_f_met(lower: Limit, upper: Limit, f: FConstant, sample: Sample)
     meets_f(f, l, u, sample)
 }
 
+#[tactic(auto, unfolding(crate::specs::Judging::is_outside))]
 fn is_outside(lower: Limit, upper: Limit, x: i32) -> bool
     ensures { result ≡ is_outside lower upper x }
 {
     is_below(lower, x) | is_above(upper, x)
 }
 
+#[tactic(auto, unfolding(crate::specs::Judging::is_below))]
 fn is_below(lower: Limit, x: i32) -> bool
     ensures { result ≡ is_below lower x }
 {
@@ -111,6 +115,7 @@ fn is_below(lower: Limit, x: i32) -> bool
     }
 }
 
+#[tactic(auto, unfolding(crate::specs::Judging::is_above))]
 fn is_above(upper: Limit, x: i32) -> bool
     ensures { result ≡ is_above upper x }
 {

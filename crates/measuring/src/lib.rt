@@ -12,14 +12,14 @@ pub mod ranges;
 pub mod samples;
 
 // A specification limit, L or U.
-#[derive(Drop)]
+#[derive(Clone, Copy)]
 pub enum Limit {
     Given(i32),
     Absent,
 }
 
 // The acceptability constant F: only a double-sided specification has one.
-#[derive(Drop)]
+#[derive(Clone, Copy)]
 pub enum FConstant {
     Thousandths(u32),
     NotApplicable,
@@ -40,6 +40,7 @@ pub struct Judgement {
 }
 
 // A limit where the flag says that it is given.
+#[tactic(auto, unfolding(crate::specs::Judging::limit_given))]
 pub fn limit_of(given: bool, value: i32) -> Limit
     ensures { result ≡ limit_given given value }
 {
@@ -50,6 +51,7 @@ pub fn limit_of(given: bool, value: i32) -> Limit
 }
 
 // F where the flag says that it is given.
+#[tactic(auto, unfolding(crate::specs::Judging::f_given))]
 pub fn f_of(given: bool, value: u32) -> FConstant
     ensures { result ≡ f_given given value }
 {
@@ -60,6 +62,7 @@ pub fn f_of(given: bool, value: u32) -> FConstant
 }
 
 // Judges the measurements by their limits, k in hundredths and F.
+#[tactic(auto, unfolding(crate::specs::Judging::judgement))]
 pub fn judge(values: &[i32], lower: Limit, upper: Limit, k: u32, f: FConstant) -> Judgement
     ensures { result ≡ judgement values.now lower upper k f }
 {
@@ -73,6 +76,7 @@ pub fn judge(values: &[i32], lower: Limit, upper: Limit, k: u32, f: FConstant) -
 }
 
 // Zeros, and no for each.
+#[tactic(auto, unfolding(crate::specs::Judging::refused))]
 fn refused_by(refusal: u32) -> Judgement
     ensures { result ≡ refused refusal }
 {

@@ -19,6 +19,7 @@ const LARGEST_K: u32 = 1000;
 const LARGEST_F: u32 = 1000;
 
 // Whether refusal 18 does not apply.
+#[tactic(auto, unfolding(crate::specs::Judging::in_range, plans::specs::Limits::within))]
 pub(crate) fn in_range(values: &[i32], lower: Limit, upper: Limit, k: u32, f: FConstant) -> bool
     ensures { result ≡ in_range values.now lower upper k f }
 {
@@ -44,6 +45,7 @@ pub(crate) fn in_range(values: &[i32], lower: Limit, upper: Limit, k: u32, f: FC
 }
 
 // Whether refusal 19 does not apply.
+#[tactic(auto, unfolding(crate::specs::Judging::is_specification))]
 pub(crate) fn is_specification(lower: Limit, upper: Limit, f: FConstant) -> bool
     ensures { result ≡ is_specification lower upper f }
 {
@@ -65,6 +67,7 @@ pub(crate) fn is_specification(lower: Limit, upper: Limit, f: FConstant) -> bool
 }
 
 // Whether a level is from -4,000 to 4,000.
+#[tactic(auto, unfolding(crate::specs::Judging::is_level))]
 fn is_level(x: i32) -> bool
     ensures { result ≡ is_level x }
 {
@@ -86,6 +89,7 @@ fn are_levels(values: &[i32]) -> bool
     ok
 }
 
+#[tactic(auto, unfolding(crate::specs::Judging::limit_in_range))]
 fn is_limit_in_range(limit: Limit) -> bool
     ensures { result ≡ limit_in_range limit }
 {
@@ -95,6 +99,7 @@ fn is_limit_in_range(limit: Limit) -> bool
     }
 }
 
+#[tactic(auto, unfolding(crate::specs::Judging::f_in_range))]
 fn is_f_in_range(f: FConstant) -> bool
     ensures { result ≡ f_in_range f }
 {
@@ -104,6 +109,7 @@ fn is_f_in_range(f: FConstant) -> bool
     }
 }
 
+#[tactic(auto, unfolding(crate::specs::Judging::is_not_applicable))]
 fn is_not_applicable(f: FConstant) -> bool
     ensures { result ≡ is_not_applicable f }
 {

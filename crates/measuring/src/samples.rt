@@ -4,7 +4,7 @@ ghost use Rattle.measuring.specs.Samples.{total, squares, sample_of};
 ghost use Rattle.measuring.specs.Working.{Ranged, Measured};
 
 // A sample's n, Σx, and S = n Σx² - (Σx)².
-#[derive(Drop)]
+#[derive(Clone, Copy)]
 pub struct Sample {
     pub count: u32,
     pub sum: i32,

@@ -1,0 +1,11 @@
+use Prim.Native.Nat.{◌-◌}
+use lib.ListN.{length}
+use Rattle.measuring.specs.Judging.{largest_level}
+use Rattle.measuring.proofs.Sums.{SumAt}
+use Rattle.measuring.proofs.samples.sum.Given as goal
+
+abbrev pub invariant-loop-i : goal.invariant-loop-i
+invariant-loop-i l = SumAt (λ x. x) largest_level l.values l.sum l.i
+
+abbrev pub decreases-loop-i : goal.decreases-loop-i
+decreases-loop-i l = length l.values - l.i
