@@ -2,6 +2,8 @@
 // a lent buffer. A piece may be cut anywhere, so the bytes of a line that has not ended are kept from piece to piece in a third.
 // Wherever it is cut, the texts of an input's pieces and the text at its end, one behind the other, are the program's output: by the
 // claim frame_text::claims::input_is_fed_in_pieces, each piece being fed to the state that the one before left.
+#![tactic(auto)]
+
 ghost use Rattle.std.specs.Prelude.{◌≡◌, [], ◌∷◌, ◌++◌, ◌+◌, ◌*◌, ◌≤◌, ◌<◌, length, take, drop};
 ghost use Rattle.model.specs.Area.{zeros};
 ghost use Rattle.frame_text.specs.Frames.{frame_of};

@@ -1,4 +1,6 @@
 // Whole lists of calls, as numbers in a slice.
+#![tactic(auto)]
+
 ghost use Rattle.std.specs.Prelude.{◌≡◌, true, [], ◌∷◌, ◌+◌, ◌*◌, ◌≤◌, ◌<◌, length};
 ghost use Rattle.little.specs.Little.{written};
 ghost use Rattle.model.specs.Store.{store_after, answers_to};
