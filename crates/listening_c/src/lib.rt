@@ -1,6 +1,8 @@
 // The calls for C and Rust: include/listening.h declares them. Each is the call of the same name in `listening` (of `listening_newest`,
 // `newest_answer`), in `lists` or in `measuring`, and promises the same: there is no duty for the caller beyond what the header says of
 // pointers.
+#![tactic(auto)]
+
 ghost use Rattle.std.specs.Prelude.{◌≡◌};
 ghost use Rattle.model.specs.declared.Entry.TheVariants.{Lot, Run, Block, Stop};
 ghost use Rattle.model.specs.declared.Call.TheVariants.{Open, Enter, Back, Ask, Read, Newest};
