@@ -4,15 +4,13 @@ use mathlib.Core.Path.{◌≡◌, refl, sym, ap, subst, ◌∙◌}
 use mathlib.Core.Bool.{Bool, true, false, ◌&&◌}
 use mathlib.Core.List.{List, [], ◌++◌}
 use native.Mathlib.Omega.{arith}
-use borrow.Author.Tests.{ltb-true}
-use lib.IntN.{ℤ, pos, negsuc}
+use borrow.Author.Tests.{ltb-true, ltb-false}
+use lib.IntN.{ℤ, pos, negsuc, nat_abs}
 use lib.ListN.{length, take}
 use lib.Signed.{lt_z}
 use mir.Syntax.{w64}
 use mir.Val.{to_z, of_z, SFits}
 use mir.ValLaws.{to_z-of_z}
-use Rattle.libc.specs.Io.{Moved}
-use Rattle.io.specs.Counts.{clamp_len}
 use Rattle.model.specs.Store.{fresh}
 use Rattle.model.proofs.Booleans.{both_true, never_both}
 use Rattle.frame_text.specs.Feeding.{Unfinished, begun, after_bytes, printed_by}
@@ -29,16 +27,16 @@ abbrev pub seen : ℤ → ℤ
 seen got = to_z w64 (of_z w64 got)
 
 module _ (u : Unfinished) (piece : List ℕ) where
-  pub some_came : (got : ℤ) → SFits w64 got → (n : ℕ) → Moved (length piece) got → n ≡ clamp_len (seen got) (length piece) → 0 < n
-      → on_read u piece got ≡ record { state = after_bytes u (take n piece); text = printed_by u (take n piece); going = true; whole = false }
+  pub some_came : (got : ℤ) → SFits w64 got → lt_z (pos 0) (seen got) ≡ true
+      → on_read u piece got ≡ record { state = after_bytes u (take (nat_abs (seen got)) piece); text = printed_by u (take (nat_abs (seen got)) piece); going = true; whole = false }
   unfolding on_read
-  some_came got fits n moved counted some = go got moved (subst (λ (z : ℤ). n ≡ clamp_len z (length piece)) (to_z-of_z w64 got fits) counted)
+  some_came got fits above = rw (to_z-of_z w64 got fits) (go got (subst (λ (z : ℤ). lt_z (pos 0) z ≡ true) (to_z-of_z w64 got fits) above))
     where
-      go : (got : ℤ) → Moved (length piece) got → n ≡ clamp_len got (length piece)
-          → on_read u piece got ≡ record { state = after_bytes u (take n piece); text = printed_by u (take n piece); going = true; whole = false }
-      go (pos zero) m e = absurd (let never : ⊥ = omega arith in never)
-      go (pos (suc k)) m e = let all : n ≡ suc k = omega arith in rw all
-      go (negsuc k) m e = absurd (let never : ⊥ = omega arith in never)
+      go : (got : ℤ) → lt_z (pos 0) got ≡ true
+          → on_read u piece got ≡ record { state = after_bytes u (take (nat_abs got) piece); text = printed_by u (take (nat_abs got) piece); going = true; whole = false }
+      go (pos zero) e = absurd (let never : ⊥ = omega (arith, ltb-true 0 0 e) in never)
+      go (pos (suc k)) e = refl
+      go (negsuc k) e = absurd (never_both true refl (sym e))
 
   pub read_failed : (got : ℤ) → SFits w64 got → lt_z (seen got) (pos 0) ≡ true
       → on_read u piece got ≡ record { state = u; text = []; going = false; whole = false }
@@ -50,17 +48,17 @@ module _ (u : Unfinished) (piece : List ℕ) where
       go (negsuc k) e = refl
 
   -- the end of the input: nothing came, and the read did not fail
-  pub input_ended : (got : ℤ) → SFits w64 got → (n : ℕ) → Moved (length piece) got → n ≡ clamp_len (seen got) (length piece) → n ≡ 0
-      → lt_z (seen got) (pos 0) ≡ false → on_read u piece got ≡ on_read u piece (pos 0)
-  input_ended got fits n moved counted none not_below =
-      go got moved
-      (subst (λ (z : ℤ). n ≡ clamp_len z (length piece)) (to_z-of_z w64 got fits) counted)
+  pub input_ended : (got : ℤ) → SFits w64 got → lt_z (pos 0) (seen got) ≡ false → lt_z (seen got) (pos 0) ≡ false
+      → on_read u piece got ≡ on_read u piece (pos 0)
+  input_ended got fits not_above not_below =
+      go got
+      (subst (λ (z : ℤ). lt_z (pos 0) z ≡ false) (to_z-of_z w64 got fits) not_above)
       (subst (λ (z : ℤ). lt_z z (pos 0) ≡ false) (to_z-of_z w64 got fits) not_below)
     where
-      go : (got : ℤ) → Moved (length piece) got → n ≡ clamp_len got (length piece) → lt_z got (pos 0) ≡ false → on_read u piece got ≡ on_read u piece (pos 0)
-      go (pos zero) m e b = refl
-      go (pos (suc k)) m e b = absurd (let never : ⊥ = omega arith in never)
-      go (negsuc k) m e b = absurd (never_both true refl b)
+      go : (got : ℤ) → lt_z (pos 0) got ≡ false → lt_z got (pos 0) ≡ false → on_read u piece got ≡ on_read u piece (pos 0)
+      go (pos zero) a b = refl
+      go (pos (suc k)) a b = absurd (let never : ⊥ = omega (arith, ltb-false 0 (suc k) a) in never)
+      go (negsuc k) a b = absurd (never_both true refl b)
 
 -- ---- all turns
 

@@ -8,6 +8,11 @@ use Rattle.feeding.specs.Fed.{LineHeld, Reached}
 use Rattle.frames.specs.declared.Turn.{Turn}
 use Rattle.frames.specs.declared.Ended.{Ended}
 
+-- what a read into n bytes may answer: -1 where it failed, or how many bytes it moved, at most n
+abbrev pub Moved : ℕ → ℤ → Type 0
+Moved n (pos k) = k ≤ n
+Moved n (negsuc k) = k ≡ 0
+
 -- the text buffer that the program lends has room for the text of a whole piece, and for that of the last line
 pub record Lent (piece out : List ℕ) : Type 0 where
   pub piece_room : text_length * length piece ≤ length out

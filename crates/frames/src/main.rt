@@ -1,13 +1,15 @@
 // The program: frames from standard input, over a fresh store, to answers on standard output. What came is answered before more is
 // read, so that it works on a pipe that stays open; its memory does not grow with the input.
+#![tactic(auto)]
+
 ghost use Rattle.std.specs.Prelude.{◌≡◌, [], length, take};
-ghost use Rattle.libc.specs.Io.{Moved};
 ghost use Rattle.model.specs.Store.{fresh};
 ghost use Rattle.feeding.specs.Fed.{LineHeld, held};
-ghost use Rattle.frames.specs.Turns.{Lent, on_read, TurnTaken, Ran};
+ghost use Rattle.frames.specs.Turns.{Moved, Lent, on_read, TurnTaken, Ran};
 
-use libc::{STDERR_FILENO, STDIN_FILENO, STDOUT_FILENO};
 use model::sizes::STORE_LENGTH;
+use std::io;
+use std::io::Read;
 
 // As much as one read takes.
 const PIECE_LENGTH: usize = 16384;
@@ -32,22 +34,29 @@ struct Ended {
     written: bool,
 }
 
-fn main() {
+fn main(rt: HostRuntime) -> io::Result<()> {
     let mut store = [0u8; STORE_LENGTH];
     let mut line = [0u8; feeding::LINE_ROOM];
     let mut piece = [0u8; PIECE_LENGTH];
     let mut out = [0u8; OUT_LENGTH];
-    let ended = run(&mut store, &mut line, &mut piece, &mut out);
+    let ended = run(&rt, &mut store, &mut line, &mut piece, &mut out);
     if !ended.written {
-        io::write_all(STDERR_FILENO, b"frames: the output cannot be written\n");
+        rt.eprintln("frames: the output cannot be written")?;
     } else if !ended.whole {
-        io::write_all(STDERR_FILENO, b"frames: the input cannot be read\n");
+        rt.eprintln("frames: the input cannot be read")?;
     }
+    Ok(())
 }
 
 // Reads, answers and prints, turn after turn. A proved loop has to end, and nothing says that the input does: it counts its turns
 // down from a number that no run uses up.
-fn run(store: &mut [u8], line: &mut [u8], piece: &mut [u8], out: &mut [u8]) -> Ended
+fn run(
+    rt: &HostRuntime,
+    store: &mut [u8],
+    line: &mut [u8],
+    piece: &mut [u8],
+    out: &mut [u8],
+) -> Ended
     requires { (store.old ≡ fresh) × LineHeld line.old 0 [] × Lent piece.old out.old }
     ensures { Ran result store.new line.new }
 {
@@ -57,16 +66,27 @@ fn run(store: &mut [u8], line: &mut [u8], piece: &mut [u8], out: &mut [u8]) -> E
     let mut written = true;
     let mut turns = u64::MAX;
     while turns > 0 && going {
-        let got = libc::read(STDIN_FILENO, piece);
+        let got = read_piece(rt, piece);
         let turn = answer(store, line, have, piece, got, out);
         have = turn.have;
         whole = turn.whole;
         let wrote = turn.wrote;
-        written = io::write_all(STDOUT_FILENO, &out[..wrote]);
+        written = rt.write_all(&out[..wrote]).is_ok();
         going = turn.going & written;
         turns -= 1;
     }
     Ended { whole, written }
+}
+
+// Reads once: how many bytes of input stand in front of the piece then, 0 at the end of the input, or -1 where the read failed.
+fn read_piece(rt: &HostRuntime, piece: &mut [u8]) -> isize
+    ensures { Moved (length piece.new) result }
+{
+    let mut input = rt.stdin();
+    match input.read(piece) {
+        Ok(n) => n as isize,
+        Err(_) => -1,
+    }
 }
 
 // Answers what a read brought to the front of a piece; at the end of the input, the last line.
@@ -81,8 +101,8 @@ fn answer(
     requires { LineHeld line.old have (take have line.old) × Lent piece.now out.old × Moved (length piece.now) got }
     ensures { TurnTaken (on_read (held store.old line.old have) piece.now got) out.old result store.new line.new out.new }
 {
-    let n = io::count(got, piece);
-    if n > 0 {
+    if got > 0 {
+        let n = got as usize;
         let fed = feeding::feed(store, line, have, &piece[..n], out);
         return Turn {
             have: fed.have,
