@@ -1,5 +1,5 @@
 /*
- * The listening controller: sixteen streams in one store of bytes. For x86-64; `rt staticlib listening_c` writes the archive.
+ * The listening controller: sixteen streams in one store of bytes. For x86-64; `tools/build` writes the archive.
  *
  * The store is 58,112 bytes, all zero when fresh, and is the caller's. Each call takes the store's address and length, the
  * stream (0 to 15) and its own arguments, and gives back a refusal number, 0 for none, and three numbers, 0 where it names

@@ -1,4 +1,4 @@
-// Links the static library, which `rt staticlib listening_c` writes. LISTENING_LIBRARY names another folder to find it in.
+// Links the static library, which `tools/build` writes. LISTENING_LIBRARY names another folder to find it in.
 use std::env;
 use std::path::PathBuf;
 
@@ -9,7 +9,7 @@ fn main() {
     let archive = folder.join("liblistening_c.a");
     assert!(
         archive.exists(),
-        "{} is missing: run `rt staticlib listening_c`",
+        "{} is missing: run `tools/build`",
         archive.display()
     );
     println!("cargo:rerun-if-env-changed=LISTENING_LIBRARY");

@@ -6,8 +6,7 @@ use mathlib.Core.Bool.{Bool, true, false, cond, ◌&&◌}
 use mathlib.Core.List.{List, [], ◌∷◌, ◌++◌}
 use native.Mathlib.Omega.{arith}
 use lib.Dec.{T, eqb}
-use lib.ListN.{length, drop, length-take, length-drop, length-replicate, get_or-replicate}
-use lib.Seq.{ext_get_or, get_or-take, get_or-drop}
+use lib.ListN.{length, length-replicate}
 use borrow.Author.Tests.{eqb-true, eqb-false}
 use Rattle.little.specs.Little.{part}
 use Rattle.model.specs.declared.Plan.{Plan}
@@ -19,7 +18,7 @@ use Rattle.model.specs.declared.Part.{Part}
 use Rattle.model.specs.Sizes.{record_length, header_length, area_length, streams, store_length, start_of}
 use Rattle.model.specs.Stations.{Station, unopened, opened, arguments, all_words}
 use Rattle.model.specs.Calls.{first_refusal, refusals, refusal_of, newest_of, changed, without_newest, call, admissible, admissible_station}
-use Rattle.model.specs.Area.{zeros, area_of, on_area}
+use Rattle.model.specs.Area.{area_of, on_area}
 use Rattle.model.specs.Store.{Request, fresh, area_at, on_store, store_after, answers_to, newest_records}
 use Rattle.model.specs.Claims.{history, after_accepted, after_past_call, standing, on, reentered, remade, AllTaken, on_all, are_words, there, newest_bytes, StationBackward, EveryList}
 use Rattle.model.proofs.Booleans.{both_of}

@@ -4,11 +4,11 @@ use mathlib.Core.Path.{◌≡◌, refl, sym, ap, ◌∙◌}
 use mathlib.Core.Bool.{Bool, false, ◌&&◌}
 use mathlib.Core.List.{List, [], ◌∷◌, ◌++◌}
 use Prim.Native.Nat.{ℕ, zero, suc, ◌+◌, ◌*◌, ◌^◌, ◌≤◌, ◌<◌}
-use native.Mathlib.Nat.{add-zero, add_assoc}
+use native.Mathlib.Nat.{add-zero}
 use native.Mathlib.Omega.{arith}
 use lib.Dec.{T, eqb, lit<, lit≤}
-use lib.ListN.{length, drop, get_or, length-append, length-take, length-drop}
-use lib.Seq.{get_or-take, get_or-drop, drop-cons, drop-drop, take-add, take_at, drop_at, take_all, ext_get_or}
+use lib.ListN.{length, drop, get_or, length-append}
+use lib.Seq.{drop-cons, drop-drop, take-add, take_at, drop_at, take_all}
 use borrow.Author.Tests.{eqb-true, eq-eqb}
 use Rattle.little.specs.Little.{bytes, value, part, written, AreBytes}
 use Rattle.little.proofs.Laws.{length_bytes, value_bytes, value_range, bytes_value, length_part, get_d_part, part_part}

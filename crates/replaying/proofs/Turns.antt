@@ -17,7 +17,6 @@ use Rattle.model.specs.Figuring.{started, figures_of}
 use Rattle.model.specs.Calls.{admissible}
 use Rattle.model.specs.Records.{record_in}
 use Rattle.model.specs.Area.{entries_in}
-use Rattle.model.proofs.Booleans.{never_both}
 use Rattle.records.specs.Records.{record_at}
 use Rattle.records.proofs.Laws.{record_at_lem}
 use Rattle.replaying.specs.declared.Entered.{Entered}

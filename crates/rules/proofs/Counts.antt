@@ -4,7 +4,7 @@ use mathlib.Core.Path.{◌≡◌, refl, sym, ◌∙◌}
 use mathlib.Core.Bool.{Bool, true, false, not, ◌||◌}
 use native.Mathlib.Omega.{arith}
 use lib.Dec.{eqb, leb}
-use borrow.Author.Tests.{eqb-true, leb-true, not-false}
+use borrow.Author.Tests.{eqb-true, leb-true}
 use Rattle.plans.specs.Limits.{largest_lot, largest_credit, within}
 use Rattle.plans.specs.Credit.{credit_verdict}
 use Rattle.plans.specs.Verdicts.{lot_heard, lot_withheld, level_verdict}

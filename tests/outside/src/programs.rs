@@ -6,7 +6,7 @@ use std::{io, thread};
 
 /// The repository's folder.
 pub const ROOT: &str = concat!(env!("CARGO_MANIFEST_DIR"), "/../..");
-/// The program that answers frames; `rt check frames` builds it.
+/// The program that answers frames; `tools/build` builds it.
 pub const FRAMES: &str = "target/bin/frames";
 
 /// What the program at this path of the repository prints for the input that `write` gives it.

@@ -1,7 +1,6 @@
 -- The figures that a valid plan starts with fit their bytes.
 use Rattle.areas.proofs.OnReading.{started_fits}
 use native.Mathlib.Omega.{arith}
-use borrow.Author.Rules.{rules}
 use Rattle.areas.proofs.open.Goals as goal
 
 pub put_header-requires : goal.put_header-requires

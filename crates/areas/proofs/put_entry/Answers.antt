@@ -1,6 +1,5 @@
 -- The record, then the header: `rewritten` as it stands.
 use Rattle.areas.specs.Written.{rewritten}
-use borrow.Author.Rules.{rules}
 use Rattle.areas.proofs.put_entry.Goals as goal
 
 pub returns : goal.returns

@@ -3,7 +3,6 @@ use native.Mathlib.Omega.{arith}
 use Rattle.plans.specs.Continuous.{screening, after_block}
 use Rattle.cases.proofs.Theorem.{proved_cases}
 use Rattle.cases.specs.Cases.{continuous_cases, cleared, right_block, wrong_block, given_in, stated_in}
-use borrow.Author.Rules.{rules}
 use Rattle.cases.proofs.continuous_cases.Goals as goal
 
 pub run-cleared-requires : goal.run-cleared-requires

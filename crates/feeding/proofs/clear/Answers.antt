@@ -1,12 +1,8 @@
 -- The loop's invariant: the first i bytes are zeros, and the others are as they were. The measure is how many bytes are left.
 use mathlib.Core.Path.{◌≡◌, refl}
-use mathlib.Core.List.{◌++◌}
-use Prim.Native.Nat.{◌≤◌, ◌-◌}
 use native.Mathlib.Omega.{arith}
-use lib.ListN.{length, drop}
 use borrow.Author.Fill.{fill_more}
 use borrow.Author.Rules.{rules}
-use Rattle.model.specs.Area.{zeros}
 use Rattle.feeding.proofs.clear.Goals as goal
 
 pub loop-i-init : goal.loop-i-init

@@ -1,6 +1,5 @@
 -- The line is a frame, which `make_frame` answered, or `ff` is written behind.
 use Rattle.feeding.proofs.Laws.{frame_line_ended, bad_line}
-use borrow.Author.Rules.{rules}
 use Rattle.frame_text.specs.Program.{on_line}
 use Rattle.feeding.proofs.end_line.Goals as goal
 

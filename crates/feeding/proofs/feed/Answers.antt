@@ -1,15 +1,15 @@
 -- The loop's invariant: the first i bytes of the piece were fed, each wrote at most a line's text, and the lent buffers kept their lengths.
 -- A turn feeds a whole frame or one byte more. The measure is how many bytes are left.
 use mathlib.Core.Path.{◌≡◌, refl}
-use Prim.Native.Nat.{◌≤◌, ◌+◌, ◌-◌, ◌*◌}
+use Prim.Native.Nat.{◌≤◌, ◌+◌}
 use native.Mathlib.Omega.{arith}
 use mathlib.Core.List.{[], ◌∷◌}
-use lib.ListN.{length, take, get_or}
+use lib.ListN.{take, get_or}
 use lib.Seq.{take_all}
 use borrow.Author.Rules.{rules}
 use Rattle.frame_text.specs.Answers.{text_length}
 use Rattle.frame_text.specs.Feeding.{line_room, after_bytes, printed_by}
-use Rattle.feeding.specs.Fed.{held, FedBy}
+use Rattle.feeding.specs.Fed.{held}
 use Rattle.feeding.proofs.Laws.{held_again, nothing_fed, byte_prints, part_one, frame_fed, fed_unframed, fed_next}
 use Rattle.feeding.proofs.feed.Goals as goal
 

@@ -1,14 +1,8 @@
-use mathlib.Core.Path.{◌≡◌, refl}
-use Prim.Native.Nat.{◌≤◌, ◌+◌, ◌-◌, ◌*◌}
-use native.Mathlib.Omega.{arith}
-use mathlib.Core.List.{[], ◌∷◌}
-use lib.ListN.{length, take, get_or}
-use lib.Seq.{take_all}
-use borrow.Author.Rules.{rules}
+use mathlib.Core.Path.{◌≡◌}
+use Prim.Native.Nat.{◌≤◌, ◌-◌, ◌*◌}
+use lib.ListN.{length, take}
 use Rattle.frame_text.specs.Answers.{text_length}
-use Rattle.frame_text.specs.Feeding.{line_room, after_bytes, printed_by}
 use Rattle.feeding.specs.Fed.{held, FedBy}
-use Rattle.feeding.proofs.Laws.{held_again, nothing_fed, byte_prints, part_one, frame_fed, fed_unframed, fed_next}
 use Rattle.feeding.proofs.feed.Given as goal
 
 abbrev pub invariant-loop-i : goal.invariant-loop-i

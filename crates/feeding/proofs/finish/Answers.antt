@@ -1,7 +1,6 @@
 -- Without a byte of a line the definition comes to nothing too; with one it is that of a line that ended.
 use mathlib.Core.Path.{sym}
 use lib.Seq.{length-take-le}
-use borrow.Author.Rules.{rules}
 use Rattle.feeding.proofs.Laws.{nothing_left, last_line_lem}
 use Rattle.feeding.proofs.finish.Goals as goal
 

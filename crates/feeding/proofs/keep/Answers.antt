@@ -1,6 +1,5 @@
 -- A byte is kept by a store where the zeros begin, or the line is full and stays.
 use native.Mathlib.Omega.{arith}
-use borrow.Author.Rules.{rules}
 use Rattle.feeding.proofs.Laws.{held_room, kept_byte, not_kept}
 use Rattle.feeding.proofs.keep.Goals as goal
 

@@ -1,6 +1,5 @@
 -- A frame is answered by what `make` and `write_answer` ensure; for a bad line nothing was called.
 use Rattle.feeding.proofs.Laws.{frame_made, frame_none}
-use borrow.Author.Rules.{rules}
 use Rattle.feeding.proofs.make_frame.Goals as goal
 
 pub returns-in-Made : goal.returns-in-Made

@@ -1,6 +1,5 @@
 -- A line feed ends the line, and the buffer is cleared; any other byte is kept.
 use native.Mathlib.Omega.{arith}
-use borrow.Author.Rules.{rules}
 use Rattle.feeding.proofs.Laws.{room_held, line_cleared, fed_line, going_on}
 use Rattle.feeding.proofs.take_byte.Goals as goal
 

@@ -1,15 +1,12 @@
 -- The loop's invariant: the flag says whether the first i bytes are digits. The measure is what is left.
-use mathlib.Core.Path.{◌≡◌, refl, ap, ◌∙◌}
+use mathlib.Core.Path.{refl, ap, ◌∙◌}
 use mathlib.Core.Bool.{and-true}
-use Prim.Native.Nat.{◌-◌, ◌≤◌}
 use native.Mathlib.Numerals.{add-one}
 use native.Mathlib.Omega.{arith}
 use lib.ListN.{take}
 use lib.Seq.{take-suc, take_all}
 use Rattle.frame_text.specs.Digits.{all_digits}
-use Rattle.frame_text.specs.Frames.{frame_length}
 use Rattle.frame_text.proofs.Laws.{digits_append}
-use borrow.Author.Rules.{rules}
 use Rattle.frame_text.proofs.all_digits.Goals as goal
 
 pub loop-i-init : goal.loop-i-init

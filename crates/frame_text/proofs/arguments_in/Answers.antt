@@ -1,14 +1,12 @@
 -- The loop's invariant: the first i places of the array hold the first i arguments. The measure is how many are left.
 use mathlib.Core.Path.{◌≡◌, refl, sym, ap, ◌∙◌}
-use Prim.Native.Nat.{◌-◌, ◌≤◌}
 use native.Mathlib.Numerals.{add-one}
 use native.Mathlib.Omega.{arith}
-use lib.ListN.{length, take, length-set}
+use lib.ListN.{length-set}
 use lib.Seq.{take-suc-set, take_all}
 use Rattle.numbering.specs.Numbers.{frame_arguments}
 use Rattle.frame_text.specs.Frames.{word_digits, argument, arguments_to}
 use Rattle.frame_text.proofs.Laws.{digits_part}
-use borrow.Author.Rules.{rules}
 use Rattle.frame_text.proofs.arguments_in.Goals as goal
 
 pub loop-i-init : goal.loop-i-init

@@ -2,7 +2,6 @@
 use Rattle.frame_text.specs.Digits.{digit_of}
 use borrow.Author.Tests.{lt-ltb, le-ltb}
 use native.Mathlib.Omega.{arith}
-use borrow.Author.Rules.{rules}
 use Rattle.frame_text.proofs.digit_of.Goals as goal
 
 pub returns-then-n-lt10 : goal.returns-then-n-lt10

@@ -7,8 +7,7 @@ use Rattle.model.proofs.Booleans.{of_holds}
 use mathlib.Core.Path.{◌≡◌, sym, ◌∙◌}
 use mathlib.Core.Bool.{true}
 use native.Mathlib.Omega.{arith}
-use borrow.Author.Tests.{eq-eqb, ne_eqb, not-true, not-false}
-use borrow.Author.Rules.{rules}
+use borrow.Author.Tests.{eq-eqb, ne_eqb}
 use Rattle.frame_text.proofs.parse.Goals as goal
 use Rattle.frame_text.proofs.parse.Goals.{Else-not-all_digits}
 

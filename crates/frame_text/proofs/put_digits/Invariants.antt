@@ -1,14 +1,8 @@
-use Rattle.frame_text.proofs.Laws.{length_digits}
-use Rattle.frame_text.specs.Digits.{digit_of, digits_of}
-use native.Mathlib.Omega.{arith}
-use mathlib.Core.Path.{◌≡◌, refl, sym, ◌∙◌}
-use mathlib.Core.List.{List, [], ◌∷◌, ◌++◌, append_assoc}
-use Prim.Native.Nat.{ℕ, zero, suc, ◌+◌, ◌-◌, ◌/◌, ◌%◌, ◌≤◌, ◌<◌}
-use borrow.Author.Rules.{rules}
-use lib.ListN.{length, set, length-set, length-append}
-use lib.Seq.{drop-cons, take-set-le, drop-set-lt, get_or-set_same}
+use Rattle.frame_text.specs.Digits.{digits_of}
+use mathlib.Core.Path.{◌≡◌}
+use Prim.Native.Nat.{◌≤◌}
+use lib.ListN.{length}
 use Rattle.little.specs.Little.{written}
-use Rattle.little.proofs.Laws.{written_nil}
 use Rattle.frame_text.proofs.put_digits.Given as goal
 
 abbrev pub invariant-loop-i : goal.invariant-loop-i

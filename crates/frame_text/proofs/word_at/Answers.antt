@@ -5,7 +5,6 @@ use native.Mathlib.Omega.{arith}
 use lib.Bits.{and_le_r}
 use Rattle.little.proofs.Laws.{length_part}
 use Rattle.frame_text.proofs.Words.{ones_in, ones_small, twos_small, fours_small, word_in_lem}
-use borrow.Author.Rules.{rules}
 use Rattle.frame_text.proofs.word_at.Goals as goal
 use Rattle.frame_text.proofs.word_at.Goals.{After-get_u64-text, Start}
 

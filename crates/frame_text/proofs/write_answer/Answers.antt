@@ -1,16 +1,14 @@
 -- Four writes and a store, each behind the one before, are one write of the answer's text: `one_line`.
-use Rattle.frame_text.proofs.Laws.{length_digits, length_answer, write_on, store_on}
+use Rattle.frame_text.proofs.Laws.{length_digits, write_on, store_on}
 use Rattle.frame_text.specs.Digits.{digits_of}
 use Rattle.frame_text.specs.Answers.{line_feed, text_length, answer_text}
 use Rattle.little.specs.Little.{written}
-use Rattle.little.proofs.Laws.{length_written}
 use Rattle.model.specs.declared.Answer.{Answer}
-use mathlib.Core.Path.{◌≡◌, ap, ◌∙◌}
+use mathlib.Core.Path.{◌≡◌}
 use mathlib.Core.List.{List, ◌++◌}
 use Prim.Native.Nat.{ℕ, ◌+◌, ◌≤◌}
 use lib.ListN.{length, set, length-append}
 use native.Mathlib.Omega.{arith}
-use borrow.Author.Rules.{rules}
 use Rattle.frame_text.proofs.write_answer.Goals as goal
 
 -- four numbers and a line feed, one behind the other

@@ -6,7 +6,6 @@ use mathlib.Core.Path.{refl}
 use mathlib.Core.List.{[], ◌∷◌}
 use lib.ListN.{length-set}
 use native.Mathlib.Omega.{arith}
-use borrow.Author.Rules.{rules}
 use Rattle.frame_text.proofs.write_bad.Goals as goal
 
 pub bounds-out-at-2 : goal.bounds-out-at-2

@@ -1,7 +1,7 @@
 -- Each return is what `on_read` gives for what the read answered.
 use mathlib.Core.Path.{refl}
 use Rattle.feeding.specs.Fed.{held}
-use Rattle.feeding.proofs.Laws.{room_held, nothing_fed}
+use Rattle.feeding.proofs.Laws.{nothing_fed}
 use Rattle.frames.specs.Turns.{on_read}
 use Rattle.frames.proofs.Laws.{some_came, read_failed, input_ended}
 use Rattle.frames.proofs.answer.Goals as goal

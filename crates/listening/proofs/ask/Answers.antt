@@ -1,6 +1,5 @@
 -- Refused by what is seen of the stream, or by its own refusals; else the sample asked.
 use Rattle.listening.proofs.Making.{asks}
-use borrow.Author.Rules.{rules}
 use Rattle.listening.proofs.ask.Goals as goal
 
 pub returns-then-standing-ne0 : goal.returns-then-standing-ne0

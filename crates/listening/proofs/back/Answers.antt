@@ -1,6 +1,5 @@
 -- Refused by what is seen of the stream, or since nothing stands; else the newest record goes, and the figures before it are written.
 use Rattle.listening.proofs.Making.{backs}
-use borrow.Author.Rules.{rules}
 use Rattle.listening.proofs.back.Goals as goal
 
 pub returns-then-standing-ne0 : goal.returns-then-standing-ne0

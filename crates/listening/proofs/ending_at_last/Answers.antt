@@ -1,5 +1,4 @@
 -- The area starts where `start_of` says.
-use borrow.Author.Rules.{rules}
 use Rattle.listening.proofs.ending_at_last.Goals as goal
 
 pub returns : goal.returns

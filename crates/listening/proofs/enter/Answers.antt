@@ -1,5 +1,4 @@
 -- Each kind of entry is entered by its own function.
-use borrow.Author.Rules.{rules}
 use Rattle.listening.proofs.enter.Goals as goal
 
 pub returns-in-Lot : goal.returns-in-Lot

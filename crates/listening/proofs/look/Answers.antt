@@ -2,7 +2,6 @@
 use Rattle.listening.proofs.Looking.{lent_from, looked_refused, looked_read, part_lent}
 use mathlib.Core.Path.{◌∙◌}
 use native.Mathlib.Omega.{arith}
-use borrow.Author.Rules.{rules}
 use Rattle.listening.proofs.look.Goals as goal
 use Rattle.listening.proofs.look.Goals.{Else-refusal-ne0}
 

@@ -1,6 +1,5 @@
 -- Refused by what is seen of the stream, by its own refusals up to the last of paper 01's, or by what comes behind; else entered.
 use Rattle.listening.proofs.Trying.{lots, lot_counted}
-use borrow.Author.Rules.{rules}
 use Rattle.listening.proofs.lot.Goals as goal
 use Rattle.listening.proofs.lot.Goals.{After-behind_earlier-last}
 

@@ -1,5 +1,4 @@
 -- Each call is made by its own function.
-use borrow.Author.Rules.{rules}
 use Rattle.listening.proofs.make.Goals as goal
 
 pub returns-in-Open : goal.returns-in-Open

@@ -1,7 +1,6 @@
 -- The part is inside the store, whatever the store is.
 use native.Mathlib.Omega.{arith}
 use Rattle.listening.proofs.Making.{part_inside, part_taken}
-use borrow.Author.Rules.{rules}
 use Rattle.listening.proofs.newest.Goals as goal
 
 pub overflow_add-end : goal.overflow_add-end

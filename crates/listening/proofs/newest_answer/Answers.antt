@@ -1,6 +1,5 @@
 -- Refused by what is seen of the stream; else as many as the count says or stand.
 use Rattle.listening.proofs.Making.{newest_calls}
-use borrow.Author.Rules.{rules}
 use Rattle.listening.proofs.newest_answer.Goals as goal
 
 pub returns-then-standing-ne0 : goal.returns-then-standing-ne0

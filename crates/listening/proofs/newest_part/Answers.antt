@@ -1,6 +1,5 @@
 -- Nothing where the call is refused; else the records end at the last that stands.
 use Rattle.listening.proofs.Making.{newest_parts}
-use borrow.Author.Rules.{rules}
 use Rattle.listening.proofs.newest_part.Goals as goal
 
 pub returns-then-standing-ne0 : goal.returns-then-standing-ne0

@@ -1,6 +1,5 @@
 -- 4 where the stream is opened; what is seen of it where it could not be; 5 by the plan; else the plan and its figures are written.
 use Rattle.listening.proofs.Making.{opens}
-use borrow.Author.Rules.{rules}
 use Rattle.listening.proofs.open.Goals as goal
 
 pub returns-then-standing-eq0 : goal.returns-then-standing-eq0

@@ -3,7 +3,6 @@ use Rattle.listening.proofs.Looking.{part_lent, part_back}
 use Rattle.areas.proofs.Rewriting.{length_rewritten}
 use Rattle.model.proofs.AreaReading.{length_record}
 use Rattle.model.proofs.OnStore.{length_area_at}
-use borrow.Author.Rules.{rules}
 use Rattle.listening.proofs.put_entry.Goals as goal
 use Rattle.listening.proofs.put_entry.Goals.{After-start_of-start}
 

@@ -2,7 +2,6 @@
 use Rattle.listening.proofs.Looking.{part_lent, part_back}
 use Rattle.areas.proofs.Rewriting.{length_headed}
 use Rattle.model.proofs.OnStore.{length_area_at}
-use borrow.Author.Rules.{rules}
 use Rattle.listening.proofs.put_plan.Goals as goal
 use Rattle.listening.proofs.put_plan.Goals.{After-start_of-start}
 

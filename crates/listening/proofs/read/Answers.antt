@@ -1,6 +1,5 @@
 -- Refused by what is seen of the stream; else what is seen, whose numbers fit 32 bits.
 use Rattle.listening.proofs.Making.{reads}
-use borrow.Author.Rules.{rules}
 use Rattle.listening.proofs.read.Goals as goal
 
 pub returns-then-standing-ne0 : goal.returns-then-standing-ne0

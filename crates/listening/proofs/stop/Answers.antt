@@ -1,6 +1,5 @@
 -- Refused by what is seen of the stream, by its own refusals up to the last, or by the last where the step fails; else entered.
 use Rattle.listening.proofs.Trying.{stops, stop_entered}
-use borrow.Author.Rules.{rules}
 use Rattle.listening.proofs.stop.Goals as goal
 use Rattle.listening.proofs.stop.Goals.{After-put_entry}
 

@@ -3,7 +3,6 @@ use Rattle.listening.proofs.Looking.{part_lent, part_back}
 use Rattle.areas.proofs.Rewriting.{length_rewritten}
 use Rattle.model.proofs.OnStore.{length_area_at}
 use mathlib.Core.Path.{refl}
-use borrow.Author.Rules.{rules}
 use Rattle.listening.proofs.take_entry.Goals as goal
 use Rattle.listening.proofs.take_entry.Goals.{After-start_of-start}
 

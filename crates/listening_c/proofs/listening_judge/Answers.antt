@@ -1,6 +1,5 @@
 -- The limits and F are those that the flags say, as `limit_of` and `f_of` made them.
 use mathlib.Core.Path.{refl, ◌∙◌}
-use borrow.Author.Rules.{rules}
 use mir.Facts.{to_z-of_z}
 use Rattle.listening_c.proofs.listening_judge.Goals as goal
 use Rattle.listening_c.proofs.listening_judge.Goals.{Start}

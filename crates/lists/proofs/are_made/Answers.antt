@@ -1,10 +1,8 @@
 -- The loop's invariant: the flag says whether the first i calls exist. The measure is how many are left.
 use Rattle.lists.specs.Lists.{all_made}
-use borrow.Author.Rules.{rules}
 use native.Mathlib.Numerals.{add-one}
 use native.Mathlib.Omega.{arith}
 use mathlib.Core.Path.{◌≡◌, refl}
-use Prim.Native.Nat.{◌≤◌, ◌-◌}
 use Rattle.lists.proofs.are_made.Goals as goal
 
 pub loop-i-preserved : goal.loop-i-preserved

@@ -1,15 +1,14 @@
 -- The loop's invariant: the first k places of the array hold the call's first k arguments. The measure is how many are left.
 use mathlib.Core.Path.{◌≡◌, refl, sym, ◌∙◌}
-use Prim.Native.Nat.{◌+◌, ◌*◌, ◌-◌, ◌≤◌}
+use Prim.Native.Nat.{◌+◌, ◌*◌}
 use native.Mathlib.Numerals.{add-one}
 use native.Mathlib.Omega.{arith}
-use lib.ListN.{length, take, length-set}
+use lib.ListN.{length-set}
 use lib.Seq.{take-suc-set, take_all}
 use Rattle.little.specs.Little.{part}
 use Rattle.little.proofs.Laws.{part_next}
 use Rattle.numbering.specs.Numbers.{frame_arguments}
 use Rattle.lists.specs.Lists.{call_length, frame_at}
-use borrow.Author.Rules.{rules}
 use Rattle.lists.proofs.frame_at.Goals as goal
 
 pub loop-k-init : goal.loop-k-init

@@ -1,14 +1,9 @@
-use mathlib.Core.Path.{◌≡◌, refl, sym, ◌∙◌}
+use mathlib.Core.Path.{◌≡◌}
 use Prim.Native.Nat.{◌+◌, ◌*◌, ◌-◌, ◌≤◌}
-use native.Mathlib.Numerals.{add-one}
-use native.Mathlib.Omega.{arith}
-use lib.ListN.{length, take, length-set}
-use lib.Seq.{take-suc-set, take_all}
+use lib.ListN.{length, take}
 use Rattle.little.specs.Little.{part}
-use Rattle.little.proofs.Laws.{part_next}
 use Rattle.numbering.specs.Numbers.{frame_arguments}
-use Rattle.lists.specs.Lists.{call_length, frame_at}
-use borrow.Author.Rules.{rules}
+use Rattle.lists.specs.Lists.{call_length}
 use Rattle.lists.proofs.frame_at.Given as goal
 
 abbrev pub invariant-loop-k : goal.invariant-loop-k

@@ -2,10 +2,8 @@
 -- it.
 use Rattle.lists.specs.Lists.{calls_in}
 use Rattle.lists.proofs.ListLaws.{list_refused, list_made, odd_numbers, other_room, by_calls}
-use borrow.Author.Tests.{not-true, not-false}
 use native.Mathlib.Omega.{arith}
 use mathlib.Core.Path.{sym, ◌∙◌}
-use borrow.Author.Rules.{rules}
 use Rattle.lists.proofs.list.Goals as goal
 use Rattle.lists.proofs.list.Goals.{After-are_made, Else-answers-count, Else-not-are_made}
 

@@ -19,8 +19,8 @@ loop-i-preserved c =
     let args = c.args in
     let all = made_before _ (suc turn.i) args.count (omega arith) c.requires.2 in
     let next =
-        turn_made args.store.now args.calls.now turn.i args.answers.now all (omega arith) turn.invariant.1 turn.invariant.2
-        one.ensures.0 one.ensures.1 in
+    turn_made args.store.now args.calls.now turn.i args.answers.now all (omega arith) turn.invariant.1 turn.invariant.2
+    one.ensures.0 one.ensures.1 in
     (omega arith, next.0, next.1, one.auto.store ∙ turn.invariant.3, one.auto.answers ∙ turn.invariant.4)
 
 pub shape_of-store : goal.shape_of-store

@@ -1,12 +1,9 @@
 use Rattle.lists.specs.Lists.{requests_to, numbers_of}
-use mathlib.Core.Path.{◌≡◌, refl, ◌∙◌}
-use Prim.Native.Nat.{suc, ◌≤◌, ◌-◌}
-use Rattle.lists.proofs.ListLaws.{none_made, turn_made, answers_all, made_before}
+use mathlib.Core.Path.{◌≡◌}
+use Prim.Native.Nat.{◌≤◌, ◌-◌}
 use Rattle.model.specs.Store.{store_after, answers_to}
 use Rattle.little.specs.Little.{written}
 use lib.ListN.{length}
-use borrow.Author.Rules.{rules}
-use native.Mathlib.Omega.{arith}
 use Rattle.lists.proofs.make_all.Given as goal
 
 abbrev pub invariant-loop-i : goal.invariant-loop-i

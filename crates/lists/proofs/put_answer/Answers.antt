@@ -5,7 +5,6 @@ use lib.ListN.{length-set}
 use Prim.Native.Nat.{ℕ, ◌+◌, ◌*◌}
 use mathlib.Core.List.{List, [], ◌∷◌}
 use native.Mathlib.Omega.{arith}
-use borrow.Author.Rules.{rules}
 use Rattle.lists.proofs.put_answer.Goals as goal
 
 pub bounds-answers-at-2 : goal.bounds-answers-at-2

@@ -1,6 +1,5 @@
 -- The sum of the two bytes at their weights is the number in them: `value_two`.
 use Rattle.little.proofs.Laws.{value_two}
-use borrow.Author.Rules.{rules}
 use Rattle.little.proofs.get_u16.Goals as goal
 
 pub returns : goal.returns

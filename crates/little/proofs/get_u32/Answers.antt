@@ -1,6 +1,5 @@
 -- The sum of the four bytes at their weights is the number in them: `value_four`.
 use Rattle.little.proofs.Laws.{value_four}
-use borrow.Author.Rules.{rules}
 use Rattle.little.proofs.get_u32.Goals as goal
 
 pub returns : goal.returns

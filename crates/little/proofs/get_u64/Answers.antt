@@ -1,6 +1,5 @@
 -- Two numbers of four bytes, the second at the weight 2^32, are the one of eight: `value_eight`.
 use Rattle.little.proofs.Laws.{value_eight}
-use borrow.Author.Rules.{rules}
 use Rattle.little.proofs.get_u64.Goals as goal
 
 pub returns : goal.returns

@@ -4,7 +4,6 @@ use mathlib.Core.Path.{◌≡◌, sym, ◌∙◌}
 use mathlib.Core.Bool.{true}
 use native.Mathlib.Omega.{arith}
 use borrow.Author.Tests.{ne_eqb}
-use borrow.Author.Rules.{rules}
 use Rattle.numbering.proofs.by_number.Goals as goal
 use Rattle.numbering.proofs.by_number.Goals.{Else-not-unused_zero}
 

@@ -1,9 +1,7 @@
 -- The loop's invariant: the flag is the definition at so many slots. The measure is how many are left.
 use mathlib.Core.Path.{◌≡◌, refl}
-use Prim.Native.Nat.{◌-◌, ◌≤◌}
 use native.Mathlib.Numerals.{add-one}
 use native.Mathlib.Omega.{arith}
-use borrow.Author.Rules.{rules}
 use Rattle.numbering.specs.Numbers.{frame_arguments, unused_zero}
 use Rattle.numbering.proofs.unused_zero.Goals as goal
 

@@ -1,6 +1,5 @@
 -- `records::clear_record` meets its contract: the bytes of a record of zeros are zeros.
 -- Assumes nothing.
-use borrow.Author.Rules.{rules}
 use Rattle.records.proofs.Laws.{cleared}
 use Rattle.records.proofs.clear_record.Goals as goal
 

@@ -1,6 +1,5 @@
 -- `records::get_plan` meets its contract: each number stands where `plan_in` reads it.
 -- Assumes nothing.
-use borrow.Author.Rules.{rules}
 use Rattle.model.specs.Area.{plan_in}
 use Rattle.records.proofs.get_plan.Goals as goal
 

@@ -1,5 +1,4 @@
 -- `records::get_record` meets its contract: the i-th record is the one at its offset. Assumes nothing.
-use borrow.Author.Rules.{rules}
 use mathlib.Core.Path.{sym, ap, ◌∙◌}
 use native.Mathlib.Omega.{arith}
 use Rattle.model.specs.Records.{record_in}

@@ -1,6 +1,5 @@
 -- `records::get_record_at` meets its contract: each number stands where `record_in` reads it in the record.
 -- Assumes nothing.
-use borrow.Author.Rules.{rules}
 use mathlib.Core.Path.{sym}
 use Rattle.records.proofs.Laws.{record_read}
 use Rattle.records.proofs.get_record_at.Goals as goal

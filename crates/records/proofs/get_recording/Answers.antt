@@ -1,6 +1,5 @@
 -- `records::get_recording` meets its contract: both numbers stand where `recording_in` reads them.
 -- Assumes nothing.
-use borrow.Author.Rules.{rules}
 use mathlib.Core.Path.{sym}
 use Rattle.records.proofs.Laws.{recording_read}
 use Rattle.records.proofs.get_recording.Goals as goal

@@ -1,6 +1,5 @@
 -- `records::has_ceiling` meets its contract: the ceiling and the zeros behind it are compared where they stand.
 -- Assumes nothing.
-use borrow.Author.Rules.{rules}
 use native.Mathlib.Omega.{arith}
 use mathlib.Core.Path.{◌≡◌, refl}
 use lib.Dec.{lit<}

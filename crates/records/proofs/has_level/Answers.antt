@@ -1,6 +1,5 @@
 -- `records::has_level` meets its contract: the first number that differs is one of the bytes; where none does, the last decides.
 -- Assumes nothing.
-use borrow.Author.Rules.{rules}
 use borrow.Author.Tests.{eq-eqb}
 use native.Mathlib.Omega.{arith}
 use mathlib.Core.Path.{◌≡◌, refl}

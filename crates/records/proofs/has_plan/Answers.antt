@@ -1,6 +1,5 @@
 -- `records::has_plan` meets its contract: each field is compared where it stands.
 -- Assumes nothing.
-use borrow.Author.Rules.{rules}
 use native.Mathlib.Omega.{arith}
 use mathlib.Core.Path.{◌≡◌, refl}
 use lib.Dec.{lit<}

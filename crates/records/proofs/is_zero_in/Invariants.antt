@@ -1,13 +1,6 @@
-use borrow.Author.Count.{below_more}
-use borrow.Author.Tests.{eqb-true, eq-eqb}
-use mathlib.Core.Path.{◌≡◌, refl}
-use mathlib.Core.List.{List}
-use Prim.Native.Nat.{ℕ, ◌+◌, ◌-◌, ◌≤◌, ◌<◌}
-use native.Mathlib.Omega.{arith}
-use lib.Bits.{bit_or}
-use lib.ListN.{get_or}
+use mathlib.Core.Path.{◌≡◌}
+use Prim.Native.Nat.{◌-◌, ◌≤◌}
 use Rattle.records.specs.Records.{ZeroBetween}
-use Rattle.records.proofs.Together.{no_bits}
 use Rattle.records.proofs.is_zero_in.Given as goal
 
 abbrev pub invariant-loop-i : goal.invariant-loop-i

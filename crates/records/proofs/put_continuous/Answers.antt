@@ -1,6 +1,5 @@
 -- `records::put_continuous` meets its contract: the writes and the stores are neighbours.
 -- Assumes nothing.
-use borrow.Author.Rules.{rules}
 use native.Mathlib.Omega.{arith}
 use mathlib.Core.Path.{refl}
 use mathlib.Core.List.{[]}

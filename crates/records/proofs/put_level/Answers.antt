@@ -1,6 +1,5 @@
 -- `records::put_level` meets its contract: the stores are neighbours.
 -- Assumes nothing.
-use borrow.Author.Rules.{rules}
 use native.Mathlib.Omega.{arith}
 use mathlib.Core.Path.{refl}
 use Rattle.little.specs.Little.{bytes, part}

@@ -1,6 +1,5 @@
 -- `records::put_plan` meets its contract: the writes are neighbours.
 -- Assumes nothing.
-use borrow.Author.Rules.{rules}
 use native.Mathlib.Omega.{arith}
 use mathlib.Core.Path.{refl}
 use Rattle.little.specs.Little.{bytes, part}

@@ -1,6 +1,5 @@
 -- `records::put_record` meets its contract: the writes are neighbours, and their bytes the record's.
 -- Assumes nothing.
-use borrow.Author.Rules.{rules}
 use native.Mathlib.Omega.{arith}
 use mathlib.Core.Path.{refl}
 use Rattle.little.specs.Little.{bytes}

@@ -1,6 +1,5 @@
 -- `records::put_start` meets its contract: the stores and the write are neighbours.
 -- Assumes nothing.
-use borrow.Author.Rules.{rules}
 use native.Mathlib.Omega.{arith}
 use mathlib.Core.Path.{refl}
 use mathlib.Core.List.{[], ◌∷◌}

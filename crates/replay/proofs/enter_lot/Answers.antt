@@ -3,7 +3,6 @@ use native.Mathlib.Omega.{arith}
 use borrow.Author.Tests.{eqb-false}
 use Rattle.model.specs.Stations.{is_continuous}
 use Rattle.model.proofs.Allowed.{plan_range}
-use borrow.Author.Rules.{rules}
 use Rattle.replay.proofs.enter_lot.Goals as goal
 
 pub enter_lot-requires-2 : goal.enter_lot-requires-2

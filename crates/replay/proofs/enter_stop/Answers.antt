@@ -1,6 +1,5 @@
 -- By the plan: one that is valid, and neither credit nor level, is continuous.
 use Rattle.model.proofs.Allowed.{third_kind}
-use borrow.Author.Rules.{rules}
 use Rattle.replay.proofs.enter_stop.Goals as goal
 
 pub enter_stop-requires-2 : goal.enter_stop-requires-2

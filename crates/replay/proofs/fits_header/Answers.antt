@@ -3,7 +3,6 @@ use mathlib.Core.Path.{sym, ◌∙◌}
 use borrow.Author.Tests.{not-true, not-false}
 use Rattle.replaying.proofs.Turns.{all_stand, figures_after}
 use Rattle.replay.proofs.Readings.{fits_stored, fits_no_failed}
-use borrow.Author.Rules.{rules}
 use Rattle.replay.proofs.fits_header.Goals as goal
 
 pub returns-then-from-to : goal.returns-then-from-to

@@ -1,6 +1,5 @@
 -- The figures are those at Open, which `started` gives.
 use Rattle.replay.specs.Standing.{nothing_stands}
-use borrow.Author.Rules.{rules}
 use Rattle.replay.proofs.nothing.Goals as goal
 
 pub returns : goal.returns

@@ -1,5 +1,4 @@
 -- By the first byte.
-use borrow.Author.Rules.{rules}
 use Rattle.replay.proofs.read.Goals as goal
 
 pub returns-then-area-eq0 : goal.returns-then-area-eq0

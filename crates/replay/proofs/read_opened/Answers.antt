@@ -1,6 +1,5 @@
 -- Unsound by the plan or the count; else the header is whole, and the records are read.
 use Rattle.replay.proofs.Readings.{sayings}
-use borrow.Author.Rules.{rules}
 use Rattle.replay.proofs.read_opened.Goals as goal
 
 pub returns-then-not-is_valid : goal.returns-then-not-is_valid

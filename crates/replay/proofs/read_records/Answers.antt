@@ -3,7 +3,6 @@ use Rattle.replaying.proofs.Turns.{figures_after}
 use Rattle.replay.proofs.Readings.{sayings, says_opened}
 use borrow.Author.Tests.{not-false}
 use Rattle.little.proofs.Laws.{slice_bytes}
-use borrow.Author.Rules.{rules}
 use Rattle.replay.proofs.read_records.Goals as goal
 use Rattle.replay.proofs.read_records.Goals.{After-fits_header}
 

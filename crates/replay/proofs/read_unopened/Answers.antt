@@ -1,6 +1,5 @@
 -- All bytes are 0, or not.
 use Rattle.replay.proofs.Readings.{sayings}
-use borrow.Author.Rules.{rules}
 use Rattle.replay.proofs.read_unopened.Goals as goal
 
 pub returns-then-is_zero_from : goal.returns-then-is_zero_from

@@ -1,6 +1,5 @@
 -- As in `replay`: by the plan, of which a valid one that is neither credit nor level is continuous.
 use Rattle.model.proofs.Allowed.{third_kind}
-use borrow.Author.Rules.{rules}
 use Rattle.replay.proofs.replay_newest.Goals as goal
 
 pub replay-requires-2 : goal.replay-requires-2

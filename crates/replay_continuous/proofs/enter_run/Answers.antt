@@ -1,5 +1,4 @@
 -- The place taken from the figures stands for them.
-use borrow.Author.Rules.{rules}
 use Rattle.replay_continuous.proofs.Steps.{calls}
 use Rattle.replay_continuous.proofs.enter_run.Goals as goal
 

@@ -1,5 +1,4 @@
 -- Field by field.
-use borrow.Author.Rules.{rules}
 use Rattle.model.specs.Figuring.{no_level}
 use Rattle.replay_continuous.specs.Places.{figures_in}
 use Rattle.replay_continuous.proofs.figures_at.Goals as goal

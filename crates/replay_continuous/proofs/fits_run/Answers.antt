@@ -1,5 +1,4 @@
 -- The test of `wrong` decides which it is.
-use borrow.Author.Rules.{rules}
 use Rattle.replay_continuous.specs.Places.{fits_run}
 use Rattle.replay_continuous.proofs.fits_run.Goals as goal
 

@@ -1,5 +1,4 @@
 -- The phase decides which it is.
-use borrow.Author.Rules.{rules}
 use borrow.Author.Tests.{eq-eqb, ne_eqb}
 use Rattle.plans.specs.Continuous.{is_sampling}
 use Rattle.replay_continuous.specs.Places.{left_of}

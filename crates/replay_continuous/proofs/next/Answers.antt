@@ -1,5 +1,4 @@
 -- A step, told as an outcome.
-use borrow.Author.Rules.{rules}
 use Prim.Native.Nat.{ℕ}
 use Rattle.replaying.specs.Replaying.{sound_at, unsound_at}
 use Rattle.replaying.proofs.Tried.{told_as_lem, entered_read}

@@ -1,9 +1,5 @@
 -- What the loop keeps is `Ready` of the records that are left, at the figures of the place.
-use Prim.Native.Nat.{◌≤◌, ◌-◌}
-use native.Mathlib.Omega.{arith}
-use borrow.Author.Rules.{rules}
-use Rattle.replaying.specs.Replaying.{Ready}
-use Rattle.replay_continuous.specs.Places.{figures_in, told_as}
+use Rattle.replay_continuous.specs.Places.{told_as}
 use Rattle.replay_continuous.proofs.Steps.{loops}
 use Rattle.replay_continuous.proofs.replay.Goals as goal
 

@@ -1,5 +1,4 @@
 -- What is left decides which it is.
-use borrow.Author.Rules.{rules}
 use borrow.Author.Tests.{eq-eqb, ne_eqb}
 use Rattle.plans.specs.Continuous.{sampling}
 use Rattle.replay_continuous.specs.Places.{state_of}

@@ -1,5 +1,4 @@
 -- A block is met in sampling alone, and what it leaves is the state of `plans` after it.
-use borrow.Author.Rules.{rules}
 use Rattle.replay_continuous.proofs.Steps.{block_steps}
 use Rattle.replay_continuous.proofs.step_block.Goals as goal
 

@@ -1,5 +1,4 @@
 -- What a stop leaves is the state of `plans` after it.
-use borrow.Author.Rules.{rules}
 use Rattle.replay_continuous.proofs.Steps.{stops}
 use Rattle.replay_continuous.proofs.step_stop.Goals as goal
 

@@ -1,6 +1,5 @@
 -- Without a recording number a record may be a stop. By the phase and the head it is a block's or a run's, which the step tells of; what is
 -- left fails.
-use borrow.Author.Rules.{rules}
 use Rattle.replay_continuous.proofs.Steps.{takes}
 use Rattle.replay_continuous.proofs.take.Goals as goal
 

@@ -1,5 +1,4 @@
 -- The numbers taken from the figures stand for them.
-use borrow.Author.Rules.{rules}
 use Rattle.replay_credit.proofs.Steps.{calls}
 use Rattle.replay_credit.proofs.enter_stop.Goals as goal
 

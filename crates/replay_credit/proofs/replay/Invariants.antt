@@ -1,9 +1,6 @@
 use Prim.Native.Nat.{◌-◌}
-use native.Mathlib.Omega.{arith}
-use borrow.Author.Rules.{rules}
 use Rattle.replaying.specs.Replaying.{Ready}
-use Rattle.replay_credit.specs.Carrying.{figures_in, told_as}
-use Rattle.replay_credit.proofs.Steps.{loops}
+use Rattle.replay_credit.specs.Carrying.{figures_in}
 use Rattle.replay_credit.proofs.replay.Given as goal
 
 abbrev pub invariant-loop-i : goal.invariant-loop-i

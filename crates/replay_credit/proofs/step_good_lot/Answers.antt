@@ -1,5 +1,4 @@
 -- A lot with nothing wrong that may follow stands whatever the sample, and leaves every sum in range.
-use borrow.Author.Rules.{rules}
 use Rattle.replay_credit.proofs.Steps.{steps}
 use Rattle.replay_credit.proofs.step_good_lot.Goals as goal
 

@@ -1,5 +1,4 @@
 -- The step follows the test.
-use borrow.Author.Rules.{rules}
 use Rattle.replay_credit.proofs.Steps.{stops}
 use Rattle.replay_credit.proofs.step_stop.Goals as goal
 

@@ -1,8 +1,6 @@
 -- A lot that may follow stands where its counts agree, and leaves every sum in range.
 use mathlib.Core.Path.{sym, ◌∙◌}
 use native.Mathlib.Omega.{arith}
-use borrow.Author.Rules.{rules}
-use borrow.Author.Tests.{not-false}
 use Rattle.replay_credit.proofs.Steps.{steps, wrong_at_most}
 use Rattle.replay_credit.proofs.step_wrong_lot.Goals as goal
 use Rattle.replay_credit.proofs.step_wrong_lot.Goals.{After-after-arg-1}

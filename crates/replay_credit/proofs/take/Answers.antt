@@ -1,5 +1,4 @@
 -- A record without a recording may be a stop; one without fault is a good lot; one with another head fails; in the rest something is wrong.
-use borrow.Author.Rules.{rules}
 use Rattle.replay_credit.proofs.Steps.{takes}
 use Rattle.replay_credit.proofs.take.Goals as goal
 

@@ -1,5 +1,4 @@
 -- A discontinued stream refuses by 8; else the step's answer, whose numbers stand for the figures.
-use borrow.Author.Rules.{rules}
 use Rattle.replay_level.proofs.Steps.{calls}
 use Rattle.replay_level.proofs.enter_lot.Goals as goal
 

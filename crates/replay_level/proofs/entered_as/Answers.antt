@@ -1,5 +1,4 @@
 -- One variant, one answer of `entered_as`.
-use borrow.Author.Rules.{rules}
 use Rattle.replaying.specs.Replaying.{sound_at, unsound_at}
 use Rattle.replaying.proofs.Tried.{told_in}
 use Rattle.replay_level.specs.Carrying.{entered_as}

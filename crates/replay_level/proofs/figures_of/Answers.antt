@@ -1,7 +1,6 @@
 -- Field by field.
 use Rattle.replaying.specs.LotStreams.{lot_figures}
 use Rattle.replay_level.specs.Carrying.{figures_in}
-use borrow.Author.Rules.{rules}
 use Rattle.replay_level.proofs.figures_of.Goals as goal
 
 pub returns : goal.returns

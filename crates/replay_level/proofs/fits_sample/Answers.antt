@@ -1,5 +1,4 @@
 -- Each answer is a law of `Samples`.
-use borrow.Author.Rules.{rules}
 use Rattle.replay_level.proofs.Samples.{samples}
 use Rattle.replay_level.proofs.fits_sample.Goals as goal
 

@@ -1,5 +1,4 @@
 -- The same answer, told as an outcome.
-use borrow.Author.Rules.{rules}
 use Rattle.replaying.specs.Replaying.{sound_at, unsound_at}
 use Rattle.replaying.proofs.Tried.{told_as_lem, entered_read}
 use Rattle.replay_level.specs.Carrying.{entered_as, told_as}

@@ -1,9 +1,5 @@
 -- The invariant is `Ready` of the records that are left, at the figures that the numbers stand for: each turn is a law of `Turns`.
-use Prim.Native.Nat.{◌-◌}
-use native.Mathlib.Omega.{arith}
-use borrow.Author.Rules.{rules}
-use Rattle.replaying.specs.Replaying.{Ready}
-use Rattle.replay_level.specs.Carrying.{figures_in, told_as}
+use Rattle.replay_level.specs.Carrying.{told_as}
 use Rattle.replay_level.proofs.Steps.{loops}
 use Rattle.replay_level.proofs.replay.Goals as goal
 

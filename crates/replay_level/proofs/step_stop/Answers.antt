@@ -1,5 +1,4 @@
 -- The step follows the test, and leaves the state that `plans` says.
-use borrow.Author.Rules.{rules}
 use Rattle.replay_level.proofs.Steps.{stops}
 use Rattle.replay_level.proofs.step_stop.Goals as goal
 

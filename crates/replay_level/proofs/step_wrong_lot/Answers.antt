@@ -1,6 +1,5 @@
 -- A lot that may follow is withheld where the sample holds what is wrong.
 use native.Mathlib.Omega.{arith}
-use borrow.Author.Rules.{rules}
 use Rattle.replay_level.proofs.Steps.{steps}
 use Rattle.replay_level.proofs.step_wrong_lot.Goals as goal
 

@@ -1,6 +1,5 @@
 -- A discontinued stream takes nothing. A record without a recording may be a stop; one without fault is a good lot; one with another head
 -- fails; in the rest something is wrong.
-use borrow.Author.Rules.{rules}
 use Rattle.replay_level.proofs.Steps.{takes}
 use Rattle.replay_level.proofs.take.Goals as goal
 

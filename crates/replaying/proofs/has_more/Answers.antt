@@ -1,5 +1,4 @@
 -- No bit is set in the number that is made where all three are zero.
-use borrow.Author.Rules.{rules}
 use Rattle.records.proofs.Together.{either_bit}
 use Rattle.replaying.proofs.Heads.{both_zero}
 use Rattle.replaying.proofs.has_more.Goals as goal

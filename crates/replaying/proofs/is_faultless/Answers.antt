@@ -1,5 +1,4 @@
 -- The sum is 1 where the head is and both counts are 0.
-use borrow.Author.Rules.{rules}
 use Rattle.replaying.proofs.Heads.{faultless_sum}
 use Rattle.replaying.proofs.is_faultless.Goals as goal
 

@@ -1,5 +1,4 @@
 -- Each answer is a law of `Heads`, by what was tested on the way to it.
-use borrow.Author.Rules.{rules}
 use Rattle.replaying.proofs.Heads.{whys}
 use Rattle.replaying.proofs.why_of.Goals as goal
 

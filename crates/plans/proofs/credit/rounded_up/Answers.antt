@@ -4,7 +4,6 @@ use Rattle.plans.specs.Credit.{rounded_up}
 use native.Mathlib.Nat.{div-le_self}
 use native.Mathlib.Omega.{arith}
 use borrow.Author.Tests.{eq-eqb, ne_eqb}
-use borrow.Author.Rules.{rules}
 use Rattle.plans.proofs.credit.rounded_up.Goals as goal
 
 pub overflow_add-result : goal.overflow_add-result

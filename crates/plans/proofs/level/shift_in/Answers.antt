@@ -1,7 +1,6 @@
 -- Twice the remainder by 16, and one more for a withheld lot, is below 32.
 use Rattle.plans.specs.Levels.{shifted}
 use native.Mathlib.Omega.{arith}
-use borrow.Author.Rules.{rules}
 use Rattle.plans.proofs.level.shift_in.Goals as goal
 
 pub returns-then-withheld : goal.returns-then-withheld

@@ -2,7 +2,6 @@
 use Rattle.plans.proofs.Rows.{code_letter_below}
 use Rattle.plans.specs.Tables.{code_letter}
 use mathlib.Core.Path.{refl}
-use borrow.Author.Rules.{rules}
 use Rattle.plans.proofs.tables.code_letter.Goals as goal
 
 pub returns : goal.returns

@@ -3,7 +3,6 @@ use borrow.Author.Tests.{eq-eqb, ne_eqb}
 use Rattle.plans.specs.Tables.{column_at}
 use native.Mathlib.Omega.{arith}
 use mathlib.Core.Path.{refl}
-use borrow.Author.Rules.{rules}
 use Rattle.plans.proofs.tables.column.Goals as goal
 
 pub returns-then-severity-eq-TIGHTENED : goal.returns-then-severity-eq-TIGHTENED

@@ -1,7 +1,6 @@
 -- The column is that of reduced; the rest is the table.
 use Rattle.plans.specs.Tables.{table2, tabled}
 use mathlib.Core.Path.{refl}
-use borrow.Author.Rules.{rules}
 use Rattle.plans.proofs.tables.least_sample.Goals as goal
 
 pub returns : goal.returns

@@ -1,7 +1,6 @@
 -- The number is read at the letter and the column that the two functions give; a lot that is smaller is heard whole.
 use Rattle.plans.specs.Tables.{table2, tabled, level_sample}
 use native.Mathlib.Omega.{arith}
-use borrow.Author.Rules.{rules}
 use Rattle.plans.proofs.tables.sample_size.Goals as goal
 
 pub returns-then-n-tabled : goal.returns-then-n-tabled

@@ -1,7 +1,6 @@
 -- The definition asks for the verdicts in the code's order.
 use borrow.Author.Tests.{eq-eqb, ne_eqb}
 use Rattle.plans.specs.Verdicts.{accepted_of}
-use borrow.Author.Rules.{rules}
 use Rattle.plans.proofs.verdict.accepted_of.Goals as goal
 
 pub returns-then-verdict-eq-ACCEPTED : goal.returns-then-verdict-eq-ACCEPTED

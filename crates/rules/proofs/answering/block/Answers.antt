@@ -1,5 +1,4 @@
 -- What `block` of `asking` gives stands in the answer as it is: congruence.
-use borrow.Author.Rules.{rules}
 use Rattle.rules.proofs.answering.block.Goals as goal
 
 pub returns : goal.returns

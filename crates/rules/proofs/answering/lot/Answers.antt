@@ -1,5 +1,4 @@
 -- The verdict, what it accepts and the figure stand in the answer as the three functions give them: congruence.
-use borrow.Author.Rules.{rules}
 use Rattle.rules.proofs.answering.lot.Goals as goal
 
 pub returns : goal.returns

@@ -3,7 +3,6 @@ use Rattle.plans.specs.Continuous.{is_sampling}
 use Rattle.model.specs.Stations.{is_continuous}
 use Rattle.model.specs.Calls.{read_figure}
 use borrow.Author.Tests.{eq-eqb, ne_eqb}
-use borrow.Author.Rules.{rules}
 use Rattle.rules.proofs.answering.read_figure.Goals as goal
 
 pub returns-then-plan-ne-CONTINUOUS : goal.returns-then-plan-ne-CONTINUOUS

@@ -2,7 +2,6 @@
 use Rattle.model.specs.Figuring.{verdict_on}
 use Rattle.model.specs.Stations.{is_credit, has_option}
 use borrow.Author.Tests.{eq-eqb, ne_eqb}
-use borrow.Author.Rules.{rules}
 use Rattle.rules.proofs.asking.verdict.Goals as goal
 
 pub returns-then-plan-eq-CREDIT : goal.returns-then-plan-eq-CREDIT

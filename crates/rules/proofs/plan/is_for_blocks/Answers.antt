@@ -1,6 +1,4 @@
 -- A conjunction, asked part by part: each answer says which part failed, or that all before the last hold.
-use borrow.Author.Tests.{not-true, not-false}
-use borrow.Author.Rules.{rules}
 use Rattle.rules.proofs.plan.is_for_blocks.Goals as goal
 
 pub returns-then-not-within : goal.returns-then-not-within

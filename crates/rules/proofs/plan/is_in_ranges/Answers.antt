@@ -1,7 +1,6 @@
 -- The definition asks for the kinds in the code's order, and each kind's ranges are a function's answer.
 use Rattle.model.specs.Stations.{is_credit, is_level, is_continuous, valid_ranges}
 use borrow.Author.Tests.{eq-eqb, ne_eqb}
-use borrow.Author.Rules.{rules}
 use Rattle.rules.proofs.plan.is_in_ranges.Goals as goal
 
 pub returns-then-kind-eq-CREDIT : goal.returns-then-kind-eq-CREDIT

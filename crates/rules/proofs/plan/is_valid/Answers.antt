@@ -1,6 +1,5 @@
 -- Both parts of the definition are functions' answers.
 use Rattle.model.specs.Stations.{valid_plan}
-use borrow.Author.Rules.{rules}
 use Rattle.rules.proofs.plan.is_valid.Goals as goal
 
 pub returns : goal.returns

@@ -2,7 +2,6 @@
 use Rattle.model.specs.Figuring.{no_level, started}
 use Rattle.model.specs.Stations.{is_level}
 use borrow.Author.Tests.{eq-eqb, ne_eqb}
-use borrow.Author.Rules.{rules}
 use Rattle.rules.proofs.plan.started.Goals as goal
 
 pub returns-then-plan-eq-LEVEL : goal.returns-then-plan-eq-LEVEL

@@ -1,5 +1,4 @@
 -- All but the level is zero, and `screen` gives the continuous ones.
-use borrow.Author.Rules.{rules}
 use Rattle.rules.proofs.plan.with_level.Goals as goal
 
 pub returns : goal.returns

@@ -2,7 +2,6 @@
 use Rattle.rules.proofs.UpToLast.{in_turn}
 use Rattle.model.specs.Stations.{is_continuous}
 use Rattle.model.specs.Calls.{ask_refusals}
-use borrow.Author.Rules.{rules}
 use Rattle.rules.proofs.refusing.ask.Goals as goal
 
 pub returns-then-plan-eq-CONTINUOUS : goal.returns-then-plan-eq-CONTINUOUS

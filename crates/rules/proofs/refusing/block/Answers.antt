@@ -3,7 +3,6 @@ use Rattle.rules.proofs.UpToLast.{in_turn}
 use Rattle.model.specs.Stations.{is_continuous}
 use Rattle.model.specs.Calls.{rule_refusals, is_full}
 use Rattle.rules.specs.Refusing.{BlockUpToLast, earlier}
-use borrow.Author.Rules.{rules}
 use Rattle.rules.proofs.refusing.block.Goals as goal
 
 pub returns-then-plan-ne-CONTINUOUS : goal.returns-then-plan-ne-CONTINUOUS

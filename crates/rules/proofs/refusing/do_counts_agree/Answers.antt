@@ -1,7 +1,6 @@
 -- A conjunction, asked part by part: the sample holds what is wrong in it, none was missed, and the range that the verdict sets.
 use Rattle.model.specs.Calls.{counts_agree}
 use borrow.Author.Tests.{le-leb, lt-leb}
-use borrow.Author.Rules.{rules}
 use Rattle.rules.proofs.refusing.do_counts_agree.Goals as goal
 
 pub returns-then-sample-wrong : goal.returns-then-sample-wrong

@@ -1,7 +1,6 @@
 -- No verdict is two at once, so of the definition's two conditions at most one asks for anything.
 use mathlib.Core.Bool.{and-true}
 use borrow.Author.Tests.{ne_eqb}
-use borrow.Author.Rules.{rules}
 use Rattle.rules.proofs.refusing.is_by_verdict.Goals as goal
 
 pub returns-then-verdict-eq-HEARD : goal.returns-then-verdict-eq-HEARD

@@ -2,7 +2,6 @@
 use Rattle.model.specs.Stations.{is_level}
 use Rattle.model.specs.Calls.{size_in_range}
 use borrow.Author.Tests.{eq-eqb, ne_eqb}
-use borrow.Author.Rules.{rules}
 use Rattle.rules.proofs.refusing.is_size.Goals as goal
 
 pub returns-then-plan-eq-LEVEL : goal.returns-then-plan-eq-LEVEL

@@ -4,7 +4,6 @@ use Rattle.model.specs.Stations.{is_continuous}
 use Rattle.model.specs.Calls.{rule_refusals, is_full}
 use Rattle.rules.specs.Refusing.{LotUpToLast, earlier}
 use Rattle.rules.proofs.Counts.{size_passed, credit_within}
-use borrow.Author.Rules.{rules}
 use Rattle.rules.proofs.refusing.lot.Goals as goal
 
 pub sample-requires : goal.sample-requires

@@ -1,6 +1,5 @@
 -- A conjunction: the label is asked first, and the size where the label is another.
 use Rattle.rules.specs.Refusing.{may_follow}
-use borrow.Author.Rules.{rules}
 use Rattle.rules.proofs.refusing.may_follow.Goals as goal
 
 pub returns-then-is_same_label : goal.returns-then-is_same_label

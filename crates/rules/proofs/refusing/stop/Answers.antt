@@ -2,7 +2,6 @@
 use Rattle.rules.proofs.UpToLast.{in_turn}
 use Rattle.model.specs.Calls.{rule_refusals, is_full}
 use Rattle.rules.specs.Refusing.{StopUpToLast, earlier}
-use borrow.Author.Rules.{rules}
 use Rattle.rules.proofs.refusing.stop.Goals as goal
 
 pub returns-then-is_discontinued : goal.returns-then-is_discontinued

@@ -48,7 +48,7 @@ pub fn write() -> Result<(), String> {
     for (file, text) in [(INPUT, input), (OUTPUT, output)] {
         fs::write(place(file), text).map_err(|why| format!("{file}: {why}"))?;
     }
-    println!("{INPUT} and {OUTPUT} are written; rt check frames compares them with the program");
+    println!("{INPUT} and {OUTPUT} are written; rt ci compares them with the program");
     Ok(())
 }
 

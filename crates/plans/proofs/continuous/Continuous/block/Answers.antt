@@ -1,7 +1,6 @@
 -- Wrong or right decides the definition too; the new state is `screen`'s or `sample`'s, and 1 ≤ heard ≤ interval keeps every difference
 -- above zero.
 use Rattle.plans.specs.Continuous.{after_block}
-use borrow.Author.Rules.{rules}
 use Rattle.plans.proofs.continuous.Continuous.block.Goals as goal
 
 pub returns-then-wrong : goal.returns-then-wrong

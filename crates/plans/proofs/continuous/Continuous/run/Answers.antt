@@ -1,7 +1,6 @@
 -- The definition's two tests, wrong and then count against clearance, are the code's; each way ends in `screen`'s or `sample`'s state.
 use Rattle.plans.specs.Continuous.{after_run}
 use borrow.Author.Tests.{eq-eqb, ne_eqb}
-use borrow.Author.Rules.{rules}
 use Rattle.plans.proofs.continuous.Continuous.run.Goals as goal
 
 pub returns-then-wrong : goal.returns-then-wrong

@@ -3,7 +3,6 @@
 use Rattle.plans.specs.Stops.{set_up_changed, long_stop}
 use Rattle.plans.specs.Continuous.{after_stop, is_sampling}
 use borrow.Author.Tests.{eq-eqb, ne_eqb, lt-ltb, le-ltb}
-use borrow.Author.Rules.{rules}
 use Rattle.plans.proofs.continuous.Continuous.stop.Goals as goal
 
 pub returns-then-why-eq-SET_UP_CHANGED : goal.returns-then-why-eq-SET_UP_CHANGED

@@ -1,7 +1,6 @@
 -- The definition has the code's one test, whether any is wrong; the limits of credit and lot keep the sum in 32 bits.
 use borrow.Author.Tests.{eq-eqb, ne_eqb}
 use Rattle.plans.specs.Credit.{credit_after}
-use borrow.Author.Rules.{rules}
 use Rattle.plans.proofs.credit.Credit.after.Goals as goal
 
 pub returns-then-wrong-eq0 : goal.returns-then-wrong-eq0

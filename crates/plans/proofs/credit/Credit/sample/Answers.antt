@@ -6,7 +6,6 @@ use Rattle.plans.proofs.RoundedUp.{sample_of_usable, credit_sample_least, credit
 use Rattle.plans.specs.Credit.{credit_sample}
 use Rattle.plans.specs.Limits.{largest_credit, largest_lot, largest_aoql}
 use native.Mathlib.Omega.{arith}
-use borrow.Author.Rules.{rules}
 use Rattle.plans.proofs.credit.Credit.sample.Goals as goal
 use Rattle.plans.proofs.credit.Credit.sample.Goals.{After-rounded_up, After-usable-usable, Start}
 

@@ -2,7 +2,6 @@
 use mathlib.Core.Path.{◌∙◌}
 use Rattle.plans.specs.Levels.{arrived}
 use Rattle.plans.proofs.Judging.{accepts}
-use borrow.Author.Rules.{rules}
 use Rattle.plans.proofs.level.LevelState.accept_on_normal.Goals as goal
 use Rattle.plans.proofs.level.LevelState.accept_on_normal.Goals.{then-self-ge9+else-permits_reduced, else-self-ge9}
 

@@ -2,7 +2,6 @@
 use mathlib.Core.Path.{◌∙◌}
 use Rattle.plans.specs.Levels.{arrived}
 use Rattle.plans.proofs.Judging.{accepts}
-use borrow.Author.Rules.{rules}
 use Rattle.plans.proofs.level.LevelState.accept_on_tightened.Goals as goal
 
 pub returns-then-self-ge4 : goal.returns-then-self-ge4

@@ -1,5 +1,4 @@
 -- A withheld lot, and an accepted one on normal, on tightened and elsewhere: each is its function's contract, at what became of the lot.
-use borrow.Author.Rules.{rules}
 use Rattle.plans.proofs.level.LevelState.judge.Goals as goal
 
 pub returns-then-withheld : goal.returns-then-withheld

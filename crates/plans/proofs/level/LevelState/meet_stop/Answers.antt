@@ -2,7 +2,6 @@
 use Rattle.plans.specs.Stops.{set_up_changed, long_stop}
 use Rattle.plans.specs.Levels.{met_stop}
 use borrow.Author.Tests.{eq-eqb, ne_eqb, lt-ltb, le-ltb}
-use borrow.Author.Rules.{rules}
 use Rattle.plans.proofs.level.LevelState.meet_stop.Goals as goal
 
 pub returns-then-self-ne-REDUCED : goal.returns-then-self-ne-REDUCED

@@ -2,7 +2,6 @@
 use mathlib.Core.Path.{◌∙◌}
 use Rattle.plans.specs.Levels.{arrived}
 use Rattle.plans.proofs.Judging.{withholds}
-use borrow.Author.Rules.{rules}
 use Rattle.plans.proofs.level.LevelState.withhold.Goals as goal
 
 pub returns-then-self-ge9 : goal.returns-then-self-ge9
