@@ -7,11 +7,7 @@ fn main() {
         .map(PathBuf::from)
         .unwrap_or_else(|| PathBuf::from(env::var_os("CARGO_MANIFEST_DIR").expect("cargo sets it")).join("../target/staticlib"));
     let archive = folder.join("liblistening_c.a");
-    assert!(
-        archive.exists(),
-        "{} is missing: run `tools/build`",
-        archive.display()
-    );
+    assert!(archive.exists(), "{} is missing: run `tools/build`", archive.display());
     println!("cargo:rerun-if-env-changed=LISTENING_LIBRARY");
     println!("cargo:rerun-if-changed={}", archive.display());
     println!("cargo:rustc-link-search=native={}", folder.display());
