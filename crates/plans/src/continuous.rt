@@ -52,6 +52,7 @@ impl Continuous {
     }
 
     // A run in screening: so many right detections, then a wrong one if wrong.
+    #[tactic(auto, unfolding(crate::specs::Continuous::after_run))]
     pub fn run(self, clearance: u32, right: u32, wrong: bool) -> Self
         requires { (self.count + right ≤ clearance) × (clearance ≤ largest_clearance) }
         ensures { result ≡ after_run clearance right wrong self }
@@ -86,6 +87,7 @@ impl Continuous {
     }
 
     // Meets a stop.
+    #[tactic(auto, unfolding(crate::specs::Continuous::after_stop, crate::specs::Continuous::is_sampling, crate::specs::Stops::set_up_changed, crate::specs::Stops::long_stop))]
     pub fn stop(self, why: u32, days: u32) -> Self
         ensures { result ≡ after_stop why days self }
     {

@@ -47,6 +47,7 @@ impl Credit {
     }
 
     // The verdict on a lot with so many wrong in its sample: clause 10 b) and c).
+    #[tactic(auto, unfolding(crate::specs::Credit::credit_verdict))]
     pub fn verdict(self, hear_all: bool, wrong: u32) -> u32
         ensures { result ≡ credit_verdict self.0 hear_all wrong }
     {

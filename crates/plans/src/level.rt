@@ -70,6 +70,7 @@ impl LevelState {
     }
 
     // Meets a stop.
+    #[tactic(auto, unfolding(crate::specs::Levels::met_stop, crate::specs::Stops::set_up_changed, crate::specs::Stops::long_stop, crate::specs::Levels::arrived))]
     pub fn meet_stop(mut self, why: u32, days: u32) -> Self
         ensures { result ≡ met_stop why days self }
     {
@@ -106,6 +107,7 @@ impl LevelState {
     }
 
     // An accepted lot on tightened: the fifth in a row leads to normal, else the tenth lot judged there ends the stream.
+    #[tactic(auto, using(crate::proofs::Judging::accepts), unfolding(crate::specs::Levels::arrived))]
     fn accept_on_tightened(mut self) -> Self
         requires { (self.level ≡ tightened) × (self.row < most_counted) × (self.judged < most_counted) }
         ensures { (permits : Bool) → result ≡ judged_lot permits false self }
@@ -134,6 +136,7 @@ impl LevelState {
     }
 
     // A withheld lot: the second in the window ends normal, the tenth lot judged there tightened, any of them reduced.
+    #[tactic(auto, using(crate::proofs::Judging::withholds), unfolding(crate::specs::Levels::arrived))]
     fn withhold(mut self) -> Self
         requires { self.judged < most_counted }
         ensures { (permits : Bool) → result ≡ judged_lot permits true self }

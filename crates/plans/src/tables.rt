@@ -79,6 +79,7 @@ fn column(vl: usize, severity: u32) -> usize
 }
 
 // The row of Table 1 that a lot size lies in: its letters, VL-7 to VL-1. The table starts at 2.
+#[tactic(auto, unfolding(crate::specs::Tables::table1, crate::specs::Tables::last_letters, crate::specs::Tables::letters_in))]
 fn letters(size: LotSize) -> [u8; 7]
     ensures { result ≡ letters_in table1 size.0 }
 {
