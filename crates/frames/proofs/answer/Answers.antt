@@ -5,7 +5,6 @@ use lib.IntN.{pos}
 use lib.Signed.{lt_z}
 use borrow.Author.Rules.{rules}
 use Rattle.feeding.specs.Fed.{held}
-use Rattle.feeding.proofs.Laws.{nothing_fed}
 use Rattle.frames.specs.Turns.{on_read}
 use Rattle.frames.proofs.Laws.{seen, some_came, input_ended}
 use Rattle.frames.proofs.answer.Goals as goal
