@@ -28,7 +28,7 @@ pub enum FConstant {
 // What a judgement gives, laid out as C lays it out: a refusal, 18 or 19, or 0; how many measurements lie outside the limits; n U - Σx and
 // Σx - n L; and whether none lies outside, every given limit meets k, and F is met.
 #[repr(C)]
-#[derive(Drop)]
+#[derive(Clone, Copy)]
 pub struct Judgement {
     pub refusal: u32,
     pub outside: u32,
