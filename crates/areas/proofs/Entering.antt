@@ -1,9 +1,10 @@
--- A call that enters something, on an area in which the stream is opened: refused up to the last of paper 01's list, or by the last where the
--- step of the plan fails, or by 17 behind it, or entered. Assumes nothing.
+-- A call that enters something, on an area in which the stream is opened: refused up to the last of paper 01's list, or by the last where
+-- the step of the plan fails, or by 17 behind it, or entered. Assumes nothing.
 use Prim.Native.Nat.{ℕ, ◌+◌, ◌≤◌, ◌<◌}
 use mathlib.Core.Path.{◌≡◌, refl, sym, ap, ◌∙◌}
 use mathlib.Core.Bool.{Bool, true, false, cond, not, ◌||◌}
 use mathlib.Core.List.{List}
+use Rattle.std.specs.Prelude.{Option, Some, None}
 use native.Mathlib.Omega.{arith}
 use lib.Dec.{T, eqb, ltb}
 use borrow.Author.Tests.{eqb-true, ne_eqb, ltb-false, leb-false, not-false}
@@ -25,7 +26,6 @@ use Rattle.model.proofs.Allowed.{passed, entry_refusal}
 use Rattle.model.proofs.Booleans.{neither_of}
 use Rattle.rules.specs.Refusing.{earlier, UpToLast}
 use Rattle.rules.proofs.UpToLast.{last_of, first_earlier, last_decides}
-use Rattle.replaying.specs.declared.Entered.{Entered}
 use Rattle.replaying.specs.Replaying.{Reached, tried, asked_lot}
 use Rattle.replaying.proofs.Tried.{allows_anywhere, lot_unrecorded}
 use Rattle.records.specs.Records.{LevelFits}
@@ -123,16 +123,29 @@ pub lot_asked : (p : Plan) (f : Figures) (label N n d D : ℕ) (rec : Recording)
 unfolding asked_lot
 lot_asked p f label N n d D rec same = rw (← same) (sym (lot_unrecorded p f rec label N n d D))
 
--- what is left of an entry's refusals where only the last of paper 01's can apply, by whether the step of the plan stands: that one, 17, or
--- none
-abbrev pub last_refusal : Bool → Entry → ℕ
-last_refusal sound e = cond sound (cond (lacks_recording e) 17 0) (last_of e)
-
 last_positive : (e : Entry) → last_of e ≡ 0 → ⊥
 last_positive (Lot label N n d D rec) z = omega arith
 last_positive (Run h w rec) z = omega arith
 last_positive (Block q w rec) z = omega arith
 last_positive (Stop why days) z = omega arith
+
+-- the step of the plan fails, or gives the figures after the entry
+module _ (p : Plan) (f : Figures) (e : Entry) where
+  step_fails : None ≡ tried p f e → allows p f 0 e ≡ false
+  unfolding tried
+  step_fails = go (allows p f 0 e)
+    where
+      go : (b : Bool) → ◌≡◌ {A = Option Figures} None (cond b (Some (stepped p e f)) None) → b ≡ false
+      go true t = cc
+      go false t = refl
+
+  step_stands : {g : Figures} → Some g ≡ tried p f e → (allows p f 0 e ≡ true) × (g ≡ stepped p e f)
+  unfolding tried
+  step_stands {g} = go (allows p f 0 e)
+    where
+      go : (b : Bool) → Some g ≡ cond b (Some (stepped p e f)) None → (b ≡ true) × (g ≡ stepped p e f)
+      go true t = (refl, cc)
+      go false t = absurd (cc)
 
 module _ {area : List ℕ} {s : Standing} {es : List Entry} (at : OpenedAt 0 area s es) where
   -- figures that calls have left, with a place free
@@ -162,45 +175,40 @@ module _ {area : List ℕ} {s : Standing} {es : List Entry} (at : OpenedAt 0 are
       by_last : first_refusal (rule_refusals s.plan s.figures s.count e) ≡ cond (allows s.plan s.figures s.count e) 0 (last_of e)
       by_last = last_decides s.plan s.figures s.count e last_left
 
-      module _ (room : s.count < most_records) {x : Entered} (made : x ≡ tried s.plan s.figures e) where
-        allowed_as : allows s.plan s.figures s.count e ≡ x.sound
-        unfolding tried
-        allowed_as = allows_anywhere s.plan s.figures s.count e room ∙ sym (ap (λ (y : Entered). y.sound) made)
+      module _ (room : s.count < most_records) where
+        allowed_here : allows s.plan s.figures s.count e ≡ allows s.plan s.figures 0 e
+        allowed_here = allows_anywhere s.plan s.figures s.count e room
 
-        -- by the step and the recording
-        by_step : first_refusal (entry_refusals s.plan s.figures s.count e) ≡ last_refusal x.sound e
-        by_step = entry_refusal s.plan s.figures s.count e ∙ rw (by_last, allowed_as) (go x.sound)
-          where
-            go : (b : Bool) → cond (eqb (cond b 0 (last_of e)) 0) (cond (lacks_recording e) 17 0) (cond b 0 (last_of e)) ≡ last_refusal b e
-            go true = refl
-            go false = rw (ne_eqb (last_of e) 0 (last_positive e))
+        -- the last of paper 01's applies
+        pub refused_last : None ≡ tried s.plan s.figures e → {a : Answer} → a ≡ refused (last_of e) → leaves a area ≡ on_area area (Enter e)
+        refused_last fails given =
+            let last = entry_refusal s.plan s.figures s.count e
+            ∙ rw (by_last, allowed_here, step_fails s.plan s.figures e fails) (rw (ne_eqb (last_of e) 0 (last_positive e))) in
+            enter_refused at e (sym last) (last_positive e) given
 
-        module _ {n : ℕ} (said : n ≡ last_refusal x.sound e) where
-          -- the last, or 17, applies
-          pub refused_last : {a : Answer} → (n ≡ 0 → ⊥) → a ≡ refused n → leaves a area ≡ on_area area (Enter e)
-          refused_last applies given = enter_refused at e (said ∙ sym by_step) applies given
+        module _ {g : Figures} (stands : Some g ≡ tried s.plan s.figures e) where
+          -- none of paper 01's does
+          by_recording : first_refusal (entry_refusals s.plan s.figures s.count e) ≡ cond (lacks_recording e) 17 0
+          by_recording =
+              entry_refusal s.plan s.figures s.count e ∙ rw (by_last, allowed_here, (step_stands s.plan s.figures e stands).0)
 
-          -- none does: the figures are those after the entry
-          module _ (clear : n ≡ 0) where
+          -- 17 does
+          pub refused_recording : lacks_recording e ≡ true → {a : Answer} → a ≡ refused 17 → leaves a area ≡ on_area area (Enter e)
+          refused_recording lacks given = enter_refused at e (sym (by_recording ∙ rw lacks)) (λ z. omega arith) given
+
+          -- nor does 17: the figures are those after the entry
+          module _ (recorded : lacks_recording e ≡ false) where
             pub none_refused : first_refusal (entry_refusals s.plan s.figures s.count e) ≡ 0
-            none_refused = by_step ∙ sym said ∙ clear
+            none_refused = by_recording ∙ rw recorded
 
-            stands : x.sound ≡ true
-            stands = go x.sound refl
-              where
-                go : (b : Bool) → x.sound ≡ b → x.sound ≡ true
-                go true k = k
-                go false k = absurd (last_positive e (sym (rw k at said) ∙ clear))
+            pub figures_after : g ≡ stepped s.plan e s.figures
+            figures_after = (step_stands s.plan s.figures e stands).1
 
-            pub figures_after : x.figures ≡ stepped s.plan e s.figures
-            unfolding tried
-            figures_after = ap (λ (y : Entered). y.figures) made ∙ rw (sym (ap (λ (y : Entered). y.sound) made) ∙ stands)
-
-            pub fits_after : LevelFits x.figures.level
+            pub fits_after : LevelFits g.level
             fits_after = after_fits at e none_refused figures_after
 
             -- what it gives, and the area after it
             pub entered_here : {a : Answer} {after : List ℕ} → a ≡ entry_answer s.plan s.figures e
-                → after ≡ rewritten s.plan s.count (record_bytes (record_of e)) (s.count + 1) x.figures area
+                → after ≡ rewritten s.plan s.count (record_bytes (record_of e)) (s.count + 1) g area
                 → leaves a after ≡ on_area area (Enter e)
             entered_here given left = entered at e refl none_refused figures_after given left

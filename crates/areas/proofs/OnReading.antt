@@ -2,6 +2,7 @@
 use Prim.Native.Nat.{ℕ, zero, suc, ◌≤◌}
 use mathlib.Core.Path.{◌≡◌, refl, sym, ap, ◌∙◌}
 use mathlib.Core.List.{List, [], ◌∷◌}
+use Rattle.std.specs.Prelude.{Result, Ok, Err}
 use native.Mathlib.Omega.{arith}
 use lib.Dec.{T}
 use lib.ListN.{length, drop}
@@ -21,8 +22,11 @@ use Rattle.model.specs.FigureBounds.{FiguresWithin}
 use Rattle.model.proofs.FigureBounds.{figures_within}
 use Rattle.model.proofs.Keeping.{plan_of_lem, entries_of}
 use Rattle.records.specs.Records.{LevelFits}
+use Rattle.rules.specs.declared.refusing.Refusal.{Refusal as Refused}
+use Rattle.rules.specs.declared.refusing.Refusal.TheVariants.{Unsound, Unopened}
+use Rattle.rules.specs.Refusing.{number_of}
 use Rattle.replay.specs.declared.Standing.{Standing}
-use Rattle.replay.specs.Standing.{nothing_stands, standing_of}
+use Rattle.replay.specs.Standing.{standing_of}
 
 -- an area in which a stream is opened, as the reading tells it, with so many of the newest entries set apart
 pub record OpenedAt (newest : ℕ) (area : List ℕ) (s : Standing) (es : List Entry) : Type 0 where
@@ -30,28 +34,29 @@ pub record OpenedAt (newest : ℕ) (area : List ℕ) (s : Standing) (es : List E
   pub counted : s.count ≡ length es
   pub brought : s.figures ≡ figures_of s.plan (drop newest es)
 
-module _ (newest : ℕ) (area : List ℕ) (s : Standing) (said : s ≡ standing_of newest (reading area)) where
-  refusal_of_lem : (r : Reading) → reading area ≡ r → s.refusal ≡ (standing_of newest r).refusal
-  refusal_of_lem r e = ap (λ (x : Standing). x.refusal) (said ∙ ap (standing_of newest) e)
+module _ (newest : ℕ) (area : List ℕ) {said : Result Standing Refused} (same : said ≡ standing_of newest (reading area)) where
+  of_reading : (r : Reading) → reading area ≡ r → said ≡ standing_of newest r
+  of_reading r e = same ∙ ap (standing_of newest) e
 
-  pub read_unopened_lem : s.refusal ≡ 6 → reading area ≡ holds unopened
-  unfolding standing_of nothing_stands
+  pub read_unopened_lem : said ≡ Err Unopened → reading area ≡ holds unopened
+  unfolding standing_of
   read_unopened_lem six = go (reading area) refl
     where
       go : (r : Reading) → reading area ≡ r → reading area ≡ holds unopened
-      go unsound e = absurd (omega (arith, refusal_of_lem unsound e))
+      go unsound e = let t = of_reading unsound e in cc
       go (holds unopened) e = e
-      go (holds (opened p es)) e = absurd (omega (arith, refusal_of_lem (holds (opened p es)) e))
+      go (holds (opened p es)) e = let t = of_reading (holds (opened p es)) e in cc
 
-  pub read_opened : s.refusal ≡ 0 → (es : List Entry) × OpenedAt newest area s es
-  unfolding standing_of nothing_stands
-  read_opened none = go (reading area) refl
+  pub read_opened : {s : Standing} → said ≡ Ok s → (es : List Entry) × OpenedAt newest area s es
+  unfolding standing_of
+  read_opened {s} is = go (reading area) refl
     where
       go : (r : Reading) → reading area ≡ r → (es : List Entry) × OpenedAt newest area s es
-      go unsound e = absurd (omega (arith, refusal_of_lem unsound e))
-      go (holds unopened) e = absurd (omega (arith, refusal_of_lem (holds unopened) e))
+      go unsound e = let t = of_reading unsound e in absurd (cc)
+      go (holds unopened) e = let t = of_reading (holds unopened) e in absurd (cc)
       go (holds (opened p es)) e =
-          let told : s ≡ standing_of newest (holds (opened p es)) = said ∙ ap (standing_of newest) e in (
+          let t = of_reading (holds (opened p es)) e in
+          let told : s ≡ record { plan = p; figures = figures_of p (drop newest es); count = length es } = cc in (
             es,
             record {
               reads = rw (ap (λ (x : Standing). x.plan) told) e;
@@ -61,18 +66,22 @@ module _ (newest : ℕ) (area : List ℕ) (s : Standing) (said : s ≡ standing_
           )
 
   -- 3, and 6 for a call that is no Open
-  pub read_refused : (c : Call) → (s.refusal ≡ 6 → refusal_of unopened c ≡ 6) → (s.refusal ≡ 0 → ⊥)
-      → on_area area c ≡ record { answer = refused s.refusal; area = area }
-  unfolding standing_of nothing_stands
-  read_refused c six some = go (reading area) refl
+  pub read_refused : (c : Call) {r : Refused} → said ≡ Err r → (r ≡ Unopened → refusal_of unopened c ≡ 6)
+      → on_area area c ≡ record { answer = refused (number_of r); area = area }
+  unfolding standing_of
+  read_refused c {r} is six = go (reading area) refl
     where
-      go : (r : Reading) → reading area ≡ r → on_area area c ≡ record { answer = refused s.refusal; area = area }
-      go unsound e = rw (refusal_of_lem unsound e) (on_unsound area c e)
+      go : (read : Reading) → reading area ≡ read → on_area area c ≡ record { answer = refused (number_of r); area = area }
+      go unsound e =
+          let t = of_reading unsound e in
+          let given : r ≡ Unsound = cc in
+          rw given (on_unsound area c e)
       go (holds unopened) e =
-          let given = refusal_of_lem (holds unopened) e in
+          let t = of_reading (holds unopened) e in
+          let given : r ≡ Unopened = cc in
           let kept = refused_station unopened c (λ z. omega (arith, six given)) in
           on_station area unopened c e ∙ rw (kept.0, kept.1, six given, given, (area_of_reading area unopened e).1)
-      go (holds (opened p es)) e = absurd (some (refusal_of_lem (holds (opened p es)) e))
+      go (holds (opened p es)) e = let t = of_reading (holds (opened p es)) e in absurd (cc)
 
 -- what holds of the plan, the entries and the figures of such an area
 module _ {newest : ℕ} {area : List ℕ} {s : Standing} {es : List Entry} (at : OpenedAt newest area s es) where

@@ -1,2 +1,3 @@
--- What the contracts of this crate cite beside the definitions of frame_text.
+-- What the contracts of this crate cite beside the definitions of frame_text: the line buffer, and what feeding leaves.
+pub mod Held
 pub mod Fed

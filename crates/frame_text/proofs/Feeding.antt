@@ -9,11 +9,10 @@ use native.Mathlib.Omega.{arith}
 use borrow.Author.Tests.{eqb-true, ne_eqb, le-leb, leb-true, leb-false}
 use lib.Dec.{T, eqb, leb}
 use lib.ListN.{length, length-append}
-use Rattle.model.specs.declared.Call.{Call}
+use Rattle.std.specs.Prelude.{Option, Some, None}
 use Rattle.model.specs.Store.{fresh}
 use Rattle.model.proofs.Booleans.{both_of, both_true, of_holds}
 use Rattle.numbering.specs.declared.Frame.{Frame}
-use Rattle.numbering.specs.declared.Frame.TheVariants.{Made, Bad}
 use Rattle.frame_text.specs.Digits.{digit, all_digits}
 use Rattle.frame_text.specs.Frames.{frame_length, frame_of}
 use Rattle.frame_text.specs.Answers.{line_feed}
@@ -60,7 +59,7 @@ at_end_lem store (b ∷ line) = rw (all_before_last b line) (sym (append-nil _),
 
 -- ---- a line too long, of which not every byte is kept
 
-too_long_bad : (line : List ℕ) → frame_length < length line → frame_of line ≡ Bad
+too_long_bad : (line : List ℕ) → frame_length < length line → frame_of line ≡ None
 unfolding frame_of
 too_long_bad line h = simp (ne_eqb (length line) frame_length (λ e. omega arith))
 
@@ -193,16 +192,16 @@ frame_line store line long h =
     )
 
 -- a line that makes a call is 60 digits
-pub frame_digits : (line : List ℕ) (stream : ℕ) (c : Call) → frame_of line ≡ Made stream c → (length line ≡ frame_length) × T (all_digits line)
+pub frame_digits : (line : List ℕ) (f : Frame) → frame_of line ≡ Some f → (length line ≡ frame_length) × T (all_digits line)
 unfolding frame_of
-frame_digits line stream c e = go (eqb (length line) frame_length && all_digits line) _ refl e
+frame_digits line f e = go (eqb (length line) frame_length && all_digits line) _ refl e
   where
-    go : (t : Bool) (f : Frame) → (eqb (length line) frame_length && all_digits line) ≡ t → cond t f Bad ≡ Made stream c
+    go : (t : Bool) (g : Option Frame) → (eqb (length line) frame_length && all_digits line) ≡ t → cond t g None ≡ Some f
         → (length line ≡ frame_length) × T (all_digits line)
-    go true f test made =
+    go true g test made =
         let both : (eqb (length line) frame_length ≡ true) × (all_digits line ≡ true) = both_true (eqb (length line) frame_length) (all_digits line) test in
         (eqb-true (length line) frame_length both.0, of_holds (all_digits line) both.1)
-    go false f test made = absurd (let never : ◌≡◌ {A = ℕ} 0 1 = cc in let none : ⊥ = omega arith in none)
+    go false g test made = absurd (let never : ◌≡◌ {A = ℕ} 0 1 = cc in let none : ⊥ = omega arith in none)
 
 pub fed_in_pieces : FedInPieces
 unfolding begun output

@@ -1,14 +1,16 @@
 -- The laws of digits and of an answer's line. Assumes nothing.
 use mathlib.Core.Path.{◌≡◌, refl, sym, ◌∙◌}
 use mathlib.Core.Logic.{◌⊎◌, inl, inr, ⊎_elim}
-use mathlib.Core.Bool.{Bool, true, false, cond, ◌&&◌, ◌||◌, and_assoc}
+use mathlib.Core.Bool.{Bool, true, false, cond, ◌&&◌, ◌||◌, and_assoc, and-true}
 use mathlib.Core.List.{List, [], ◌∷◌, ◌++◌}
 use Prim.Native.Nat.{ℕ, zero, suc, ◌+◌, ◌*◌, ◌/◌, ◌%◌, ◌^◌, ◌≤◌, ◌<◌}
 use native.Mathlib.Nat.{add-zero, zero-add, add-suc, suc-add, pow-suc}
+use native.Mathlib.Numerals.{add-one}
 use native.Mathlib.Omega.{arith}
 use borrow.Author.Tests.{ltb-true, ltb-false, leb-true, le-leb, lt-leb}
 use lib.Dec.{T, leb, ltb, lit<}
-use lib.ListN.{length, take, drop, set, length-append, take-append-drop}
+use lib.ListN.{length, get_or, take, drop, set, length-append, take-append-drop}
+use lib.Seq.{take-suc}
 use Rattle.little.specs.Little.{part, written}
 use Rattle.little.proofs.Laws.{set_written, written_next, length_written}
 use Rattle.model.specs.declared.Answer.{Answer}
@@ -42,6 +44,11 @@ pub digits_append : (s t : List ℕ) → all_digits (s ++ t) ≡ (all_digits s &
 unfolding all_digits
 digits_append [] t = refl
 digits_append (b ∷ s) t = rw (digits_append s t) (sym (and_assoc (digit b) (all_digits s) (all_digits t)))
+
+-- one byte more
+pub digits_next : (s : List ℕ) (i : ℕ) → i < length s → all_digits (take (i + 1) s) ≡ (all_digits (take i s) && digit (get_or s i 0))
+unfolding all_digits
+digits_next s i inside = rw (add-one i, take-suc s i 0 inside, digits_append (take i s) _, and-true)
 
 -- digits, parted
 pub digits_parted : (k : ℕ) (s : List ℕ) → T (all_digits s) → T (all_digits (take k s)) × T (all_digits (drop k s))

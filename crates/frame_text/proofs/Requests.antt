@@ -7,13 +7,13 @@ use native.Mathlib.Omega.{arith}
 use borrow.Author.Tests.{eqb-true}
 use lib.Dec.{T, eqb, lit<, lit≤}
 use lib.ListN.{length}
+use Rattle.std.specs.Prelude.{Option, Some, None}
 use Rattle.little.specs.Little.{part}
 use Rattle.little.proofs.Laws.{length_part}
 use Rattle.model.specs.Store.{on_store, store_after}
 use Rattle.model.specs.Claims.{are_words}
 use Rattle.model.proofs.Booleans.{both_true, of_holds}
 use Rattle.numbering.specs.declared.Frame.{Frame}
-use Rattle.numbering.specs.declared.Frame.TheVariants.{Made, Bad}
 use Rattle.numbering.specs.Numbers.{frame_arguments, numbered, request_of}
 use Rattle.numbering.proofs.Small.{Small, numbered_small, words_before}
 use Rattle.frame_text.specs.Digits.{all_digits, hex_value}
@@ -40,7 +40,7 @@ unfolding frame_of stream_in
 frame_small line = go (eqb (length line) frame_length && all_digits line) refl
   where
     go : (t : Bool) → eqb (length line) frame_length && all_digits line ≡ t
-        → Small 256 (cond t (numbered (call_number line) (stream_in line) (arguments_to line frame_arguments)) Bad)
+        → Small 256 (cond t (numbered (call_number line) (stream_in line) (arguments_to line frame_arguments)) None)
     go true test =
         let parts = both_true (eqb (length line) frame_length) (all_digits line) test in
         let long : length line ≡ frame_length = eqb-true (length line) frame_length parts.0 in
@@ -51,7 +51,7 @@ frame_small line = go (eqb (length line) frame_length && all_digits line) refl
     go false test = tt
 
 pub frames_are_small_lem : FramesAreSmall
-frames_are_small_lem line stream c e =
+frames_are_small_lem line f e =
     let small = subst (Small 256) e (frame_small line) in
     record { byte_stream = small.0; words = small.1 }
 
@@ -67,10 +67,10 @@ unfolding requests_in store_from store_after on_line on_frame request_of
 same_store_lem store [] = refl
 same_store_lem store (line ∷ rest) = after (frame_of line) (λ (s : List ℕ). same_store_lem s rest)
   where
-    after : (f : Frame) → ((s : List ℕ) → store_from s rest ≡ store_after s (requests_in rest))
+    after : (f : Option Frame) → ((s : List ℕ) → store_from s rest ≡ store_after s (requests_in rest))
         → store_from (on_frame store f).store rest ≡ store_after store (request_of f ++ requests_in rest)
-    after (Made stream c) more = more (on_store store (record { stream = stream; made = c })).store
-    after Bad more = more store
+    after (Some f) more = more (on_store store (record { stream = f.stream; made = f.call })).store
+    after None more = more store
 
 pub makes_calls : (store : List ℕ) (ls : List (List ℕ)) → MakesCalls store ls
 makes_calls store ls = record { words = words ls; same_store = same_store_lem store ls }

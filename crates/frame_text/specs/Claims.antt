@@ -1,10 +1,9 @@
 -- What is claimed of the definitions, and proved in proofs/. Assumes nothing.
-use Rattle.std.specs.Prelude.{ℕ, ◌≤◌, ◌<◌, ◌^◌, ◌≡◌, List, ◌++◌, T, length}
-use Rattle.model.specs.declared.Call.{Call}
+use Rattle.std.specs.Prelude.{ℕ, ◌≤◌, ◌<◌, ◌^◌, ◌≡◌, List, ◌++◌, T, length, Some}
 use Rattle.model.specs.Stations.{arguments, all_words}
 use Rattle.model.specs.Store.{fresh, store_after}
 use Rattle.model.specs.Claims.{are_words}
-use Rattle.numbering.specs.declared.Frame.TheVariants.{Made}
+use Rattle.numbering.specs.declared.Frame.{Frame}
 use Rattle.frame_text.specs.Digits.{hex_value, digits_of}
 use Rattle.frame_text.specs.Frames.{frame_of}
 use Rattle.frame_text.specs.Program.{lines, output, requests_in, store_from}
@@ -15,12 +14,12 @@ abbrev pub ReadAsWritten : Type 0
 ReadAsWritten = (k n : ℕ) → n < 16 ^ k → hex_value (digits_of k n) ≡ n
 
 -- a frame's stream is a byte, and its call's arguments are 32-bit numbers
-pub record SmallNumbers (stream : ℕ) (c : Call) : Type 0 where
-  pub byte_stream : stream < 256
-  pub words : T (all_words (arguments c))
+pub record SmallNumbers (f : Frame) : Type 0 where
+  pub byte_stream : f.stream < 256
+  pub words : T (all_words (arguments f.call))
 
 abbrev pub FramesAreSmall : Type 0
-FramesAreSmall = (line : List ℕ) (stream : ℕ) (c : Call) → frame_of line ≡ Made stream c → SmallNumbers stream c
+FramesAreSmall = (line : List ℕ) (f : Frame) → frame_of line ≡ Some f → SmallNumbers f
 
 -- the lines make a list of calls as demand 3 has it: with 32-bit arguments, each on the store that the one before left
 pub record MakesCalls (store : List ℕ) (ls : List (List ℕ)) : Type 0 where

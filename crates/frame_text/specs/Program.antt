@@ -1,8 +1,7 @@
 -- The whole program: what it prints for an input. Paper 01, "Hexadecimal frames". Assumes nothing.
-use Rattle.std.specs.Prelude.{ℕ, cond, List, [], ◌∷◌, ◌++◌, eqb}
+use Rattle.std.specs.Prelude.{ℕ, cond, List, [], ◌∷◌, ◌++◌, eqb, Option, Some, None}
 use Rattle.model.specs.Store.{Request, StoreOutcome, fresh, on_store}
 use Rattle.numbering.specs.declared.Frame.{Frame}
-use Rattle.numbering.specs.declared.Frame.TheVariants.{Made, Bad}
 use Rattle.numbering.specs.Numbers.{request_of}
 use Rattle.frame_text.specs.Frames.{frame_of}
 use Rattle.frame_text.specs.Answers.{line_feed, answer_text, bad_text}
@@ -26,9 +25,9 @@ abbrev printed : StoreOutcome → LineOutcome
 printed o = record { text = answer_text o.answer; store = o.store }
 
 -- a frame makes its call; a line that is none prints `ff` and leaves the store
-unfoldable pub on_frame : List ℕ → Frame → LineOutcome
-on_frame store (Made stream c) = printed (on_store store (record { stream = stream; made = c }))
-on_frame store Bad = record { text = bad_text; store = store }
+unfoldable pub on_frame : List ℕ → Option Frame → LineOutcome
+on_frame store (Some f) = printed (on_store store (record { stream = f.stream; made = f.call }))
+on_frame store None = record { text = bad_text; store = store }
 
 unfoldable pub on_line : List ℕ → List ℕ → LineOutcome
 on_line store line = on_frame store (frame_of line)

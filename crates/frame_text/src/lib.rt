@@ -24,15 +24,16 @@ pub const BAD_LENGTH: usize = 3;
 
 pub const LINE_FEED: u8 = 10;
 
-// The frame in a line, which is given without its line feed.
-pub fn parse(line: &[u8]) -> Frame
+// The frame in a line, if it is one; the line is given without its line feed.
+#[tactic(auto, unfolding(crate::specs::Frames::frame_of))]
+pub fn parse(line: &[u8]) -> Option<Frame>
     ensures { result ≡ frame_of line.now }
 {
     if line.len() != FRAME_LENGTH {
-        return Frame::Bad;
+        return None;
     }
     if !all_digits(line) {
-        return Frame::Bad;
+        return None;
     }
     // The first eight digits: the call's two, the stream's two, and four of the first argument.
     let head = word_at(line, 0);
@@ -40,6 +41,7 @@ pub fn parse(line: &[u8]) -> Frame
 }
 
 // Writes an answer's line, TEXT_LENGTH bytes, into out from index `at` on.
+// Kept: `at` beside out, since this public function's clause `written at ..` names it; so does that of `write_bad`.
 pub fn write_answer(answer: Answer, out: &mut [u8], at: usize)
     requires { at + text_length ≤ length out.old }
     ensures { out.new ≡ written at (answer_text answer) out.old }
@@ -56,9 +58,7 @@ pub fn write_bad(out: &mut [u8], at: usize)
     requires { at + bad_length ≤ length out.old }
     ensures { out.new ≡ written at bad_text out.old }
 {
-    out[at] = b'f';
-    out[at + 1] = b'f';
-    out[at + 2] = LINE_FEED;
+    out[at..at + BAD_LENGTH].copy_from_slice(b"ff\n");
 }
 
 // The arguments in a line of digits.
@@ -66,33 +66,31 @@ fn arguments_in(line: &[u8]) -> [u32; ARGUMENTS]
     requires { (length line.now ≡ frame_length) × T (all_digits line.now) }
     ensures { result ≡ arguments_to line.now frame_arguments }
 {
-    let mut arguments = [0u32; ARGUMENTS];
-    let mut i = 0;
-    while i < ARGUMENTS {
-        arguments[i] = word_at(line, 4 + 8 * i);
-        i += 1;
+    let mut arguments = [0; ARGUMENTS];
+    for (k, argument) in arguments.iter_mut().enumerate() {
+        *argument = word_at(line, 4 + 8 * k);
     }
     arguments
 }
 
-// Whether the bytes of a line as long as a frame are digits.
+// Whether the bytes of a line are digits.
+// Speed: it goes to its end, so that the bytes are tested side by side; `all` would leave at the first that is none.
+#[tactic(auto, using(crate::proofs::Laws::digits_next), unfolding(crate::specs::Digits::all_digits))]
 fn all_digits(line: &[u8]) -> bool
-    requires { length line.now ≡ frame_length }
     ensures { result ≡ all_digits line.now }
 {
     let mut all = true;
-    let mut i = 0;
-    while i < FRAME_LENGTH {
-        all = all & is_digit(line[i]);
-        i += 1;
+    for b in line {
+        all &= is_digit(*b);
     }
     all
 }
 
+#[tactic(auto, unfolding(crate::specs::Digits::digit, plans::specs::Limits::within))]
 fn is_digit(b: u8) -> bool
     ensures { result ≡ digit b }
 {
-    ((b'0' <= b) & (b <= b'9')) | ((b'a' <= b) & (b <= b'f'))
+    matches!(b, b'0'..=b'9' | b'a'..=b'f')
 }
 
 // The number that the eight digits of line from index `at` on stand for.
@@ -103,7 +101,7 @@ fn word_at(line: &[u8], at: usize) -> u32
     requires { (at + word_digits ≤ length line.now) × T (all_digits (part at word_digits line.now)) }
     ensures { result ≡ hex_value (part at word_digits line.now) }
 {
-    let text = little::get_u64(line, at);
+    let text = little::get::<u64>(line, at);
     let ones = (text & 0x0f0f_0f0f_0f0f_0f0f) + ((text / 64) & 0x0101_0101_0101_0101) * 9;
     let twos = (ones * 16 + ones / 256) & 0x00ff_00ff_00ff_00ff;
     let fours = (twos * 256 + twos / 65536) & 0x0000_ffff_0000_ffff;
@@ -111,19 +109,20 @@ fn word_at(line: &[u8], at: usize) -> u32
 }
 
 // Writes the last `width` digits of n into out from index `at` on.
+// Kept: `write!` with `{:08x}` wants a `fmt::Write` over the lent buffer, a type and its proof for these five lines.
 fn put_digits(out: &mut [u8], at: usize, width: usize, n: u32)
     requires { at + width ≤ length out.old }
     ensures { out.new ≡ written at (digits_of width n) out.old }
 {
     let mut rest = n;
-    let mut i = width;
-    while 0 < i {
-        i -= 1;
+    for i in (0..width).rev() {
         out[at + i] = digit_of(rest % 16);
-        rest = rest / 16;
+        rest /= 16;
     }
 }
 
+// Kept: `char::from_digit` answers an Option of a char, which has to be unwrapped and made a byte again.
+#[tactic(auto, unfolding(crate::specs::Digits::digit_of))]
 fn digit_of(n: u32) -> u8
     requires { n < 16 }
     ensures { result ≡ digit_of n }

@@ -1,103 +1,116 @@
--- What a turn comes to, by what the read answered; and what all turns together leave. Assumes nothing.
-use Prim.Native.Nat.{ℕ, zero, suc}
-use mathlib.Core.Path.{◌≡◌, refl, sym, ap, subst, ◌∙◌}
-use mathlib.Core.Bool.{Bool, true, false, ◌&&◌}
+-- What a turn comes to where nothing was read, and what all turns together leave. Assumes nothing.
+use mathlib.Core.Path.{◌≡◌, refl, sym, ap, ◌∙◌}
+use mathlib.Core.Bool.{true, false}
 use mathlib.Core.List.{List, [], ◌++◌}
+use Prim.Native.Nat.{ℕ, zero, suc, ◌≤◌}
+use lib.ListN.{take, length}
 use native.Mathlib.Omega.{arith}
-use borrow.Author.Tests.{ltb-true, ltb-false}
-use lib.IntN.{ℤ, pos, negsuc, nat_abs}
-use lib.ListN.{take}
-use lib.Signed.{lt_z}
-use mir.Syntax.{w64}
-use mir.Val.{to_z, of_z, SFits}
-use mir.ValLaws.{to_z-of_z}
+use Rattle.std.specs.Result.{IsErrAnd}
+use Rattle.std.specs.Prelude.{Result, Ok, Err, IfErr}
 use Rattle.model.specs.Store.{fresh}
-use Rattle.model.proofs.Booleans.{both_true, never_both}
-use Rattle.frame_text.specs.Feeding.{Unfinished, begun, after_bytes, printed_by}
+use Rattle.frame_text.specs.Feeding.{Unfinished, begun, after_bytes}
 use Rattle.frame_text.proofs.Feeding.{fed_in_pieces}
-use Rattle.feeding.specs.Fed.{LineHeld, held}
-use Rattle.feeding.proofs.Laws.{held_state}
+use Rattle.feeding.specs.Fed.{held}
+use Rattle.feeding.proofs.Laws.{nothing_printed, text_inside}
 use Rattle.frames.specs.declared.Turn.{Turn}
-use Rattle.frames.specs.Turns.{on_read, TurnTaken, store_after_input}
+use Rattle.frames.specs.declared.Turn.TheVariants.{More, Last}
+use Rattle.frames.specs.declared.Failure.{Failure}
+use Rattle.frames.specs.declared.Failure.TheVariants.{Input, LastOutput}
+use Rattle.frames.specs.Turns.{Moved, on_read, TurnTaken, came_to_end, store_after_input, Ran}
 
 -- ---- a turn
 
--- the machine tests what it reads back from the bits of `got`, which is `got`
-abbrev pub seen : ℤ → ℤ
-seen got = to_z w64 (of_z w64 got)
+pub read_failed : (store line piece out : List ℕ) (got : Result ℕ Failure) (e : Failure) (r : Result Turn Failure)
+    → got ≡ Err e → IsErrAnd r (λ y. y ≡ e) → TurnTaken (on_read (held store line) piece got) out r store line out
+unfolding on_read
+read_failed store line piece out got e (Ok t) failed same = absurd same
+read_failed store line piece out got e (Err y) failed same =
+    rw failed (record { reached = record { answered = nothing_printed store out; line = refl }; turn = ap Err same })
 
-module _ (u : Unfinished) (piece : List ℕ) where
-  pub some_came : (got : ℤ) → SFits w64 got → lt_z (pos 0) (seen got) ≡ true
-      → on_read u piece got ≡ record { state = after_bytes u (take (nat_abs (seen got)) piece); text = printed_by u (take (nat_abs (seen got)) piece); going = true; whole = false }
-  unfolding on_read
-  some_came got fits above = rw (to_z-of_z w64 got fits) (go got (subst (λ (z : ℤ). lt_z (pos 0) z ≡ true) (to_z-of_z w64 got fits) above))
-    where
-      go : (got : ℤ) → lt_z (pos 0) got ≡ true
-          → on_read u piece got ≡ record { state = after_bytes u (take (nat_abs got) piece); text = printed_by u (take (nat_abs got) piece); going = true; whole = false }
-      go (pos zero) e = absurd (let never : ⊥ = omega (arith, ltb-true 0 0 e) in never)
-      go (pos (suc k)) e = refl
-      go (negsuc k) e = absurd (never_both true refl (sym e))
+-- how many bytes of text there are
+abbrev pub wrote_in : Result Turn Failure → ℕ
+wrote_in (Ok (More n)) = n
+wrote_in (Ok (Last n)) = n
+wrote_in (Err e) = 0
 
-  pub read_failed : (got : ℤ) → SFits w64 got → lt_z (seen got) (pos 0) ≡ true
-      → on_read u piece got ≡ record { state = u; text = []; going = false; whole = false }
-  unfolding on_read
-  read_failed got fits below = go got (subst (λ (z : ℤ). lt_z z (pos 0) ≡ true) (to_z-of_z w64 got fits) below)
-    where
-      go : (got : ℤ) → lt_z got (pos 0) ≡ true → on_read u piece got ≡ record { state = u; text = []; going = false; whole = false }
-      go (pos k) e = absurd (let never : ⊥ = omega (arith, ltb-true k 0 e) in never)
-      go (negsuc k) e = refl
-
-  -- the end of the input: nothing came, and the read did not fail
-  pub input_ended : (got : ℤ) → SFits w64 got → lt_z (pos 0) (seen got) ≡ false → lt_z (seen got) (pos 0) ≡ false
-      → on_read u piece got ≡ on_read u piece (pos 0)
-  input_ended got fits not_above not_below =
-      go got
-      (subst (λ (z : ℤ). lt_z (pos 0) z ≡ false) (to_z-of_z w64 got fits) not_above)
-      (subst (λ (z : ℤ). lt_z z (pos 0) ≡ false) (to_z-of_z w64 got fits) not_below)
-    where
-      go : (got : ℤ) → lt_z (pos 0) got ≡ false → lt_z got (pos 0) ≡ false → on_read u piece got ≡ on_read u piece (pos 0)
-      go (pos zero) a b = refl
-      go (pos (suc k)) a b = absurd (let never : ⊥ = omega (arith, ltb-false 0 (suc k) a) in never)
-      go (negsuc k) a b = absurd (never_both true refl b)
+-- the text that a turn prints lies inside its buffer
+pub turn_fits : (u : Unfinished) (piece out : List ℕ) (got : Result ℕ Failure) (r : Result Turn Failure) (store' line' out' : List ℕ)
+    → TurnTaken (on_read u piece got) out r store' line' out' → wrote_in r ≤ length out'
+unfolding on_read
+turn_fits u piece out (Ok zero) r store' line' out' taken = rw taken.turn (text_inside _ _ _ _ _ taken.reached.answered)
+turn_fits u piece out (Ok (suc k)) r store' line' out' taken = rw taken.turn (text_inside _ _ _ _ _ taken.reached.answered)
+turn_fits u piece out (Err e) r store' line' out' taken = rw taken.turn (omega arith)
 
 -- ---- all turns
 
--- some input came so far; where there may be more, it has not come to its end
-abbrev pub Progress : Bool → Bool → List ℕ → List ℕ → ℕ → Type 0
-Progress going whole store line have =
-    (input : List ℕ)
-    × (store ≡ store_after_input whole input)
-    × LineHeld line have (after_bytes begun input).line
-    × (going ≡ true → whole ≡ false)
+-- some input came so far, of which the calls are made and the unfinished line is held
+abbrev pub Progress : List ℕ → List ℕ → Type 0
+Progress store line = (input : List ℕ) × (store ≡ (after_bytes begun input).store) × (line ≡ (after_bytes begun input).line)
 
-pub no_turn : (line : List ℕ) → LineHeld line 0 [] → Progress true false fresh line 0
-unfolding store_after_input after_bytes begun
-no_turn line empty = ([], refl, empty, λ e. refl)
+pub no_turn : (store line : List ℕ) → store ≡ fresh → line ≡ [] → Progress store line
+unfolding after_bytes begun
+no_turn store line empty none = ([], empty, none)
 
-pub turn_more : (store line out : List ℕ) (have : ℕ) (piece : List ℕ) (got : ℤ) (r : Turn) (store' line' out' : List ℕ) (going whole written : Bool)
-    → going ≡ true → Progress going whole store line have
-    → TurnTaken (on_read (held store line have) piece got) out r store' line' out'
-    → Progress (r.going && written) r.whole store' line' r.have
-unfolding store_after_input on_read
-turn_more store line out have piece got r store' line' out' going whole written on so taken =
-    let u : Unfinished = after_bytes begun so.0 in
-    let same : store ≡ u.store = rw (so.3 on) at so.1 in
-    let state : held store line have ≡ u = held_state store line have u same so.2 in
-    go got (rw state at taken)
-  where
-    ended : r.going ≡ false → r.going && written ≡ true → r.whole ≡ false
-    ended stopped e = absurd (never_both r.going (both_true r.going written e).0 stopped)
+pub stopped : (store line : List ℕ) → Progress store line → (ended : Result (Unit {0}) Failure) → came_to_end ended ≡ false → Ran ended store line
+unfolding store_after_input
+stopped store line so ended part = rw part so
 
-    go : (got : ℤ) → TurnTaken (on_read (after_bytes begun so.0) piece got) out r store' line' out' → Progress (r.going && written) r.whole store' line' r.have
-    go (pos zero) turn = (
-      so.0,
-      rw turn.whole (turn.reached.answered.made ∙ fed_in_pieces.whole_store so.0),
-      turn.reached.line,
-      ended turn.going,
-    )
-    go (pos (suc k)) turn =
-        let unended : r.whole ≡ false = turn.whole in
-        let cut : after_bytes begun (so.0 ++ take (suc k) piece) ≡ after_bytes (after_bytes begun so.0) (take (suc k) piece) =
-        fed_in_pieces.cut_state begun so.0 (take (suc k) piece) in
-        (so.0 ++ take (suc k) piece, rw unended (turn.reached.answered.made ∙ ap (λ (v : Unfinished). v.store) (sym cut)), rw cut turn.reached.line, λ e. unended)
-    go (negsuc k) turn = (so.0, rw turn.whole turn.reached.answered.made, turn.reached.line, ended turn.going)
+-- a text that could not be printed is the last, or is not
+pub last_ends : (ended : Result (Unit {0}) Failure) → IfErr ended (λ e. e ≡ LastOutput) → came_to_end ended ≡ true
+last_ends (Ok x) failed = refl
+last_ends (Err e) failed = rw failed refl
+
+-- why a turn failed
+reason : Result Turn Failure → Failure
+reason (Ok t) = Input
+reason (Err e) = e
+
+-- the kinds of a turn's answer
+kind : Result Turn Failure → ℕ
+kind (Ok (More n)) = 0
+kind (Ok (Last n)) = 1
+kind (Err e) = 2
+
+-- what a turn leaves, by its answer
+module _ (piece out : List ℕ) (r : Result Turn Failure) (store' line' out' : List ℕ) where
+  -- where more may come, some more has come
+  pub turn_more : (store line : List ℕ) (got : Result ℕ Failure) (n : ℕ) → Progress store line
+      → TurnTaken (on_read (held store line) piece got) out r store' line' out' → r ≡ Ok (More n) → Progress store' line'
+  unfolding on_read kind
+  turn_more store line got n so taken is = go got (rw (so.1, so.2) at taken)
+    where
+      go : (got : Result ℕ Failure) → TurnTaken (on_read (after_bytes begun so.0) piece got) out r store' line' out' → Progress store' line'
+      go (Ok zero) taken = absurd (let never : ⊥ = omega (arith, ap kind is, ap kind taken.turn) in never)
+      go (Ok (suc k)) taken =
+          let cut = fed_in_pieces.cut_state begun so.0 (take (suc k) piece) in
+          (so.0 ++ take (suc k) piece, rw cut taken.reached.answered.made, rw cut taken.reached.line)
+      go (Err e) taken = absurd (let never : ⊥ = omega (arith, ap kind is, ap kind taken.turn) in never)
+
+  -- where it was the last, the whole input has come
+  pub turn_last : (store line : List ℕ) (got : Result ℕ Failure) (n : ℕ) → Progress store line
+      → TurnTaken (on_read (held store line) piece got) out r store' line' out' → r ≡ Ok (Last n)
+      → (ended : Result (Unit {0}) Failure) → came_to_end ended ≡ true → Ran ended store' line'
+  unfolding on_read kind store_after_input
+  turn_last store line got n so taken is ended whole = rw whole (go got (rw (so.1, so.2) at taken))
+    where
+      go : (got : Result ℕ Failure) → TurnTaken (on_read (after_bytes begun so.0) piece got) out r store' line' out'
+          → (input : List ℕ) × (store' ≡ store_after_input true input) × (line' ≡ (after_bytes begun input).line)
+      go (Ok zero) taken = (so.0, taken.reached.answered.made ∙ fed_in_pieces.whole_store so.0, taken.reached.line)
+      go (Ok (suc k)) taken = absurd (let never : ⊥ = omega (arith, ap kind is, ap kind taken.turn) in never)
+      go (Err e) taken = absurd (let never : ⊥ = omega (arith, ap kind is, ap kind taken.turn) in never)
+
+  -- where the read failed, nothing was done
+  pub turn_failed : (store line : List ℕ) (got : Result ℕ Failure) (e : Failure) → Progress store line
+      → Moved (length piece) got
+      → TurnTaken (on_read (held store line) piece got) out r store' line' out' → r ≡ Err e
+      → (ended : Result (Unit {0}) Failure) → ended ≡ Err e → Ran ended store' line'
+  unfolding on_read kind reason
+  turn_failed store line got e so moved taken is ended same = go got moved taken
+    where
+      go : (got : Result ℕ Failure) → Moved (length piece) got → TurnTaken (on_read (held store line) piece got) out r store' line' out' → Ran ended store' line'
+      go (Ok zero) moved taken = absurd (let never : ⊥ = omega (arith, ap kind is, ap kind taken.turn) in never)
+      go (Ok (suc k)) moved taken = absurd (let never : ⊥ = omega (arith, ap kind is, ap kind taken.turn) in never)
+      go (Err d) moved taken =
+          let input : e ≡ Input = sym (ap reason is) ∙ ap reason taken.turn ∙ moved in
+          let before : Progress store' line' = rw (taken.reached.answered.made, taken.reached.line) so in
+          stopped store' line' before ended (rw (same, input) refl)

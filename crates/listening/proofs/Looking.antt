@@ -1,11 +1,12 @@
 -- A call on the store: refused by what it sees of its stream, or made on the stream's area, which is lent and comes back. Assumes nothing.
-use Prim.Native.Nat.{ℕ, ◌+◌, ◌-◌, ◌≤◌, ◌<◌}
-use mathlib.Core.Path.{◌≡◌, refl, sym, ap, ◌∙◌}
+use Prim.Native.Nat.{ℕ, ◌+◌, ◌-◌, ◌<◌}
+use mathlib.Core.Path.{◌≡◌, refl, sym, ap}
 use mathlib.Core.Bool.{Bool, true, false, cond, not}
 use mathlib.Core.List.{List, ◌++◌}
+use Rattle.std.specs.Prelude.{Result, Ok, Err}
 use native.Mathlib.Omega.{arith}
 use lib.Dec.{eqb, leb}
-use borrow.Author.Tests.{eqb-true, leb-false, ne_eqb}
+use borrow.Author.Tests.{eqb-true, leb-false, eq-eqb, lt-leb}
 use lib.ListN.{length, take, drop}
 use lib.Seq.{drop-drop}
 use Rattle.little.specs.Little.{part, written}
@@ -20,27 +21,18 @@ use Rattle.model.specs.Area.{AreaOutcome, holds, reading, on_area}
 use Rattle.model.specs.Store.{StoreOutcome, area_at, on_stream, on_store}
 use Rattle.model.specs.Claims.{on}
 use Rattle.model.proofs.OnStore.{on_stream_lem, length_area_at}
+use Rattle.rules.specs.declared.refusing.Refusal.{Refusal as Refused}
+use Rattle.rules.specs.declared.refusing.Refusal.TheVariants.{StoreLength, Stream, Unopened}
+use Rattle.rules.specs.Refusing.{number_of}
 use Rattle.replay.specs.declared.Standing.{Standing}
-use Rattle.replay.specs.Standing.{nothing_stands, standing_of}
+use Rattle.replay.specs.Standing.{standing_of}
 use Rattle.areas.proofs.OnReading.{OpenedAt, read_refused, read_opened, read_unopened_lem}
 use Rattle.areas.proofs.Outcomes.{leaves}
-use Rattle.listening.specs.Handed.{store_refusal, looked_at}
+use Rattle.listening.specs.Handed.{looked_at}
 
 -- an answer, and the store after it
 abbrev pub keeps : Answer → List ℕ → StoreOutcome
 keeps r store = record { answer = r; store = store }
-
--- where neither 1 nor 2 applies, the store is whole and the stream is one of its own
-pub lent_from : (store : List ℕ) (stream : ℕ) {n : ℕ} → n ≡ store_refusal (length store) stream → n ≡ 0
-    → (length store ≡ store_length) × (stream < streams)
-unfolding store_refusal
-lent_from store stream {n} same none = go (eqb (length store) store_length) (leb streams stream) refl refl (sym none ∙ same)
-  where
-    go : (a b : Bool) → eqb (length store) store_length ≡ a → leb streams stream ≡ b → ◌≡◌ {A = ℕ} 0 (cond (not a) 1 (cond b 2 0))
-        → (length store ≡ store_length) × (stream < streams)
-    go true true e g z = omega arith
-    go true false e g z = (eqb-true (length store) store_length e, leb-false streams stream g)
-    go false b e g z = omega arith
 
 -- a stream of a whole store that is opened, as a call sees it, or unopened
 pub record OpenedIn (newest : ℕ) (store : List ℕ) (stream : ℕ) (s : Standing) : Type 0 where
@@ -55,38 +47,6 @@ pub record UnopenedIn (store : List ℕ) (stream : ℕ) : Type 0 where
   pub reads : reading (area_at stream store) ≡ holds unopened
 
 module _ (store : List ℕ) (stream : ℕ) where
-  -- 1 and 2
-  store_refused : (c : Call) (n : ℕ) → n ≡ store_refusal (length store) stream → (n ≡ 0 → ⊥)
-      → keeps (refused n) store ≡ on_store store (on stream c)
-  unfolding store_refusal on_store
-  store_refused c n same applies = go (not (eqb (length store) store_length)) (leb streams stream) same
-    where
-      go : (a b : Bool) → n ≡ cond a 1 (cond b 2 0)
-          → keeps (refused n) store
-          ≡ cond a (keeps (refused 1) store) (cond b (keeps (refused 2) store) (on_stream store (on stream c)))
-      go true b e = ap (λ (m : ℕ). keeps (refused m) store) e
-      go false true e = ap (λ (m : ℕ). keeps (refused m) store) e
-      go false false e = absurd (applies e)
-
-  refusal_range : store_refusal (length store) stream ≤ 2
-  unfolding store_refusal
-  refusal_range = go (not (eqb (length store) store_length)) (leb streams stream)
-    where
-      go : (a b : Bool) → cond a 1 (cond b 2 0) ≤ 2
-      go true b = omega arith
-      go false true = omega arith
-      go false false = omega arith
-
-  -- what `look` gives, by its two answers
-  pub looked_refused : (newest : ℕ) {n : ℕ} → n ≡ store_refusal (length store) stream → (n ≡ 0 → ⊥) → nothing_stands n ≡ looked_at newest stream store
-  unfolding looked_at
-  looked_refused newest {n} same applies = rw (← same, ne_eqb n 0 applies)
-
-  pub looked_read : (newest : ℕ) {n : ℕ} → n ≡ store_refusal (length store) stream → n ≡ 0
-      → standing_of newest (reading (area_at stream store)) ≡ looked_at newest stream store
-  unfolding looked_at
-  looked_read newest same none = rw (sym same ∙ none)
-
   -- a store and a stream of it
   module _ (whole : length store ≡ store_length) (known : stream < streams) where
     -- a call on the stream's area that leaves it as it was, and one that writes it
@@ -102,47 +62,57 @@ module _ (store : List ℕ) (stream : ℕ) where
     unfolding area_at
     on_kept c made = on_written c made (sym (written_same (start_of stream) area_length store (omega (arith, length_area_at store stream whole known))))
 
-  -- what is seen of a stream: where 1 and 2 do not apply, what its area says
-  module _ (newest : ℕ) (s : Standing) (seen : s ≡ looked_at newest stream store) where
-    at_area : (s.refusal ≡ 1 → ⊥) → (s.refusal ≡ 2 → ⊥) → store_refusal (length store) stream ≡ 0
-    unfolding looked_at nothing_stands
-    at_area one two = go (eqb (store_refusal (length store) stream) 0) refl seen
+  -- what its area says, where the store is whole and the stream one of its own
+  pub looked_read : (newest : ℕ) → length store ≡ store_length → stream < streams → {area : List ℕ} → area ≡ area_at stream store
+      → standing_of newest (reading area) ≡ looked_at newest stream store
+  unfolding looked_at
+  looked_read newest whole known same =
+      rw (same, eq-eqb (length store) store_length whole, lt-leb streams stream known)
+
+  -- what is seen of a stream
+  module _ (newest : ℕ) {said : Result Standing Refused} (seen : said ≡ looked_at newest stream store) where
+    -- where it is neither 1 nor 2, the store is whole, the stream is one of its own, and its area says it
+    record Lent : Type 0 where
+      whole : length store ≡ store_length
+      known : stream < streams
+      says : said ≡ standing_of newest (reading (area_at stream store))
+
+    lent : (said ≡ Err StoreLength → ⊥) → (said ≡ Err Stream → ⊥) → Lent
+    unfolding looked_at
+    lent one two = go (eqb (length store) store_length) (leb streams stream) refl refl seen
       where
-        go : (b : Bool) → eqb (store_refusal (length store) stream) 0 ≡ b
-            → s ≡ cond b (standing_of newest (reading (area_at stream store))) (nothing_stands (store_refusal (length store) stream))
-            → store_refusal (length store) stream ≡ 0
-        go true e t = eqb-true _ 0 e
-        go false e t = let given = ap (λ (x : Standing). x.refusal) t in omega (arith, refusal_range)
+        go : (a b : Bool) → eqb (length store) store_length ≡ a → leb streams stream ≡ b
+            → said ≡ cond (not a) (Err StoreLength) (cond b (Err Stream) (standing_of newest (reading (area_at stream store)))) → Lent
+        go true true e g t = absurd (two t)
+        go true false e g t = record { whole = eqb-true (length store) store_length e; known = leb-false streams stream g; says = t }
+        go false b e g t = absurd (one t)
 
     -- where the stream is opened, and where it could be
-    pub opened_in : s.refusal ≡ 0 → OpenedIn newest store stream s
-    unfolding looked_at
-    opened_in none =
-        let seen-area = at_area (λ z. omega arith) (λ z. omega arith) in
-        let lent = lent_from store stream refl seen-area in
-        let opened = read_opened newest (area_at stream store) s (rw seen-area at seen) none in
-        record { whole = lent.0; known = lent.1; entries = opened.0; at = opened.1 }
+    pub opened_in : {s : Standing} → said ≡ Ok s → OpenedIn newest store stream s
+    opened_in is =
+        let l = lent (λ z. cc) (λ z. cc) in
+        let opened = read_opened newest (area_at stream store) l.says is in
+        record { whole = l.whole; known = l.known; entries = opened.0; at = opened.1 }
 
-    pub unopened_in : s.refusal ≡ 6 → UnopenedIn store stream
-    unfolding looked_at
+    pub unopened_in : said ≡ Err Unopened → UnopenedIn store stream
     unopened_in six =
-        let seen-area = at_area (λ z. omega arith) (λ z. omega arith) in
-        let lent = lent_from store stream refl seen-area in
-        record { whole = lent.0; known = lent.1; reads = read_unopened_lem newest (area_at stream store) s (rw seen-area at seen) six }
+        let l = lent (λ z. cc) (λ z. cc) in
+        record { whole = l.whole; known = l.known; reads = read_unopened_lem newest (area_at stream store) l.says six }
 
     -- the refusals 1, 2, 3 and, for a call that is no Open, 6
-    pub look_refused : (c : Call) (r : Answer) → (s.refusal ≡ 6 → refusal_of unopened c ≡ 6) → (s.refusal ≡ 0 → ⊥) → r ≡ refused s.refusal
-        → keeps r store ≡ on_store store (on stream c)
-    unfolding looked_at nothing_stands
-    look_refused c r six some given = ap (λ (a : Answer). keeps a store) given ∙ go (eqb (store_refusal (length store) stream) 0) refl seen
+    pub look_refused : (c : Call) {r : Refused} → said ≡ Err r → (r ≡ Unopened → refusal_of unopened c ≡ 6)
+        → keeps (refused (number_of r)) store ≡ on_store store (on stream c)
+    unfolding looked_at on_store
+    look_refused c {r} is six = go (eqb (length store) store_length) (leb streams stream) refl refl seen
       where
-        go : (b : Bool) → eqb (store_refusal (length store) stream) 0 ≡ b
-            → s ≡ cond b (standing_of newest (reading (area_at stream store))) (nothing_stands (store_refusal (length store) stream))
-            → keeps (refused s.refusal) store ≡ on_store store (on stream c)
-        go true e t =
-            let lent = lent_from store stream refl (eqb-true _ 0 e) in
-            on_kept lent.0 lent.1 c (sym (read_refused newest (area_at stream store) s t c six some))
-        go false e t = let same = ap (λ (x : Standing). x.refusal) t in store_refused c s.refusal same some
+        go : (a b : Bool) → eqb (length store) store_length ≡ a → leb streams stream ≡ b
+            → said ≡ cond (not a) (Err StoreLength) (cond b (Err Stream) (standing_of newest (reading (area_at stream store))))
+            → keeps (refused (number_of r)) store ≡ on_store store (on stream c)
+        go true true e g t = let given : r ≡ Stream = cc in rw (given, e, g)
+        go true false e g t =
+            on_kept (eqb-true (length store) store_length e) (leb-false streams stream g) c
+            (sym (read_refused newest (area_at stream store) t c is six))
+        go false b e g t = let given : r ≡ StoreLength = cc in rw (given, e)
 
 -- the part that is lent, from the start of the stream's area to its end, as code takes it; and what comes back
 module _ (store : List ℕ) (stream : ℕ) {start : ℕ} (starts : start ≡ start_of stream) where

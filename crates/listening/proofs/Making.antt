@@ -1,12 +1,13 @@
--- What Open, Back, Ask, Read and Newest give, each answer from facts in the code's own form: what is seen of the stream, what was tested, what was
--- written. The sets at the end are handed to the search, which finds these facts among what a function has learnt. Assumes nothing.
+-- What Open, Back, Ask, Read and Newest give, each answer from facts in the code's own form: what is seen of the stream, what was tested,
+-- what was written. The sets at the end are handed to the search, which finds these facts among what a function has learnt. Assumes nothing.
 use Prim.Native.Nat.{ℕ, ◌+◌, ◌-◌, ◌≤◌, ◌<◌, min}
 use mathlib.Core.Path.{◌≡◌, refl, sym, ap, ◌∙◌}
-use mathlib.Core.Bool.{Bool, true, false, not}
+use mathlib.Core.Bool.{Bool, true, false}
 use mathlib.Core.List.{List}
+use Rattle.std.specs.Prelude.{Ok, Err}
+use Rattle.model.specs.declared.Figures.{Figures}
 use native.Mathlib.Nat.{add_comm}
 use native.Mathlib.Omega.{arith}
-use borrow.Author.Tests.{not-true, not-false}
 use mir.Val.{Fits}
 use mir.Syntax.{w32}
 use lib.Dec.{T}
@@ -32,6 +33,27 @@ use Rattle.model.proofs.Booleans.{of_holds}
 use Rattle.model.proofs.NewestRecords.{no_part_lem, opened_part, part_fits}
 use Rattle.rules.proofs.Counts.{credit_within}
 use Rattle.records.specs.Records.{record_at}
+use Rattle.rules.specs.declared.refusing.Refusal.{Refusal as Refused}
+use Rattle.rules.specs.declared.refusing.Refusal.TheVariants.{
+  StoreLength,
+  Stream,
+  Unsound,
+  AlreadyOpen,
+  InvalidPlan,
+  Unopened,
+  OtherPlan,
+  Discontinued,
+  Full,
+  SameLabel,
+  Size,
+  Sample,
+  Counts,
+  Phase,
+  Range,
+  NothingStands,
+  NoRecording,
+}
+use Rattle.rules.specs.Refusing.{number_of}
 use Rattle.replay.specs.declared.Standing.{Standing}
 use Rattle.areas.specs.Written.{rewritten}
 use Rattle.areas.proofs.OnReading.{read_plan, read_figures, read_count, figures_fit}
@@ -49,6 +71,26 @@ use Rattle.areas.proofs.Outcomes.{
 }
 use Rattle.listening.specs.Handed.{looked_at, MayWrite, part_of}
 use Rattle.listening.proofs.Looking.{keeps, OpenedIn, UnopenedIn, opened_in, unopened_in, on_kept, on_written, look_refused}
+
+-- no refusal has the number 0
+pub number_positive : (r : Refused) → number_of r ≡ 0 → ⊥
+number_positive StoreLength z = omega arith
+number_positive Stream z = omega arith
+number_positive Unsound z = omega arith
+number_positive AlreadyOpen z = omega arith
+number_positive InvalidPlan z = omega arith
+number_positive Unopened z = omega arith
+number_positive OtherPlan z = omega arith
+number_positive Discontinued z = omega arith
+number_positive Full z = omega arith
+number_positive SameLabel z = omega arith
+number_positive Size z = omega arith
+number_positive Sample z = omega arith
+number_positive Counts z = omega arith
+number_positive Phase z = omega arith
+number_positive Range z = omega arith
+number_positive NothingStands z = omega arith
+number_positive NoRecording z = omega arith
 
 -- ---- refused by what is seen, for every call but Open
 pub unopened_enter : (e : Entry) → refusal_of unopened (Enter e) ≡ 6
@@ -71,51 +113,51 @@ pub unopened_newest : (n : ℕ) → refusal_of unopened (Newest n) ≡ 6
 unfolding refusal_of refusals first_refusal
 unopened_newest n = refl
 
-pub shut : (store : List ℕ) (stream newest : ℕ) (s : Standing) (c : Call) (a : Answer) → s ≡ looked_at newest stream store → (s.refusal ≡ 0 → ⊥)
-    → a ≡ refused s.refusal → refusal_of unopened c ≡ 6 → keeps a store ≡ on_store store (on stream c)
-shut store stream newest s c a seen some given six = look_refused store stream newest s seen c a (λ z. six) some given
+pub shut : (store : List ℕ) (stream newest : ℕ) (c : Call) {r : Refused} → Err r ≡ looked_at newest stream store → refusal_of unopened c ≡ 6
+    → keeps (refused (number_of r)) store ≡ on_store store (on stream c)
+shut store stream newest c seen six = look_refused store stream newest seen c refl (λ z. six)
 
 -- ---- Open
-module _ (store : List ℕ) (stream : ℕ) (s : Standing) (plan : Plan) (a : Answer) (seen : s ≡ looked_at 0 stream store) where
-  pub open_shut : (s.refusal ≡ 0 → ⊥) → (s.refusal ≡ 6 → ⊥) → a ≡ refused s.refusal → keeps a store ≡ on_store store (on stream (Open plan))
-  open_shut some other given = look_refused store stream 0 s seen (Open plan) a (λ six. absurd (other six)) some given
+module _ (store : List ℕ) (stream : ℕ) (plan : Plan) where
+  pub open_shut : {r : Refused} → Err r ≡ looked_at 0 stream store → (r ≡ Unopened → ⊥)
+      → keeps (refused (number_of r)) store ≡ on_store store (on stream (Open plan))
+  open_shut seen other = look_refused store stream 0 seen (Open plan) refl (λ six. absurd (other six))
 
-  pub open_twice : s.refusal ≡ 0 → a ≡ refused 4 → keeps a store ≡ on_store store (on stream (Open plan))
-  open_twice known given =
-      let opened = opened_in store stream 0 s seen known in
-      on_kept store stream opened.whole opened.known (Open plan) (open_again opened.at plan given)
+  pub open_twice : {s : Standing} → Ok s ≡ looked_at 0 stream store → keeps (refused 4) store ≡ on_store store (on stream (Open plan))
+  open_twice seen =
+      let opened = opened_in store stream 0 seen refl in
+      on_kept store stream opened.whole opened.known (Open plan) (open_again opened.at plan refl)
 
-  module _ (six : s.refusal ≡ 6) (valid : Bool) (tested : valid ≡ valid_plan plan) where
+  module _ (seen : Err Unopened ≡ looked_at 0 stream store) where
     here : UnopenedIn store stream
-    here = unopened_in store stream 0 s seen six
+    here = unopened_in store stream 0 seen refl
 
-    pub open_refused : not valid ≡ true → a ≡ refused 5 → keeps a store ≡ on_store store (on stream (Open plan))
-    open_refused fails given =
-        on_kept store stream here.whole here.known (Open plan) (open_invalid _ plan here.reads tested (not-true valid fails) given)
+    pub open_whole : length store ≡ store_length
+    open_whole = here.whole
 
-    pub open_taken : (then : List ℕ) → not valid ≡ false → a ≡ gives 0 0 0
-        → then ≡ written (start_of stream) (written 0 (header_of plan 0 (started plan)) (area_at stream store)) store
-        → keeps a then ≡ on_store store (on stream (Open plan))
-    open_taken then holds given wrote =
-        on_written store stream here.whole here.known (Open plan)
-        (open_made _ plan here.reads (of_holds _ (sym tested ∙ not-false valid holds)) given refl) wrote
+    pub open_known : stream < streams
+    open_known = here.known
 
-pub open_whole : (store : List ℕ) (stream : ℕ) (s : Standing) → s ≡ looked_at 0 stream store → s.refusal ≡ 6 → length store ≡ store_length
-open_whole store stream s seen six = (unopened_in store stream 0 s seen six).whole
+    module _ (valid : Bool) (tested : valid ≡ valid_plan plan) where
+      pub open_refused : valid ≡ false → keeps (refused 5) store ≡ on_store store (on stream (Open plan))
+      open_refused fails = on_kept store stream here.whole here.known (Open plan) (open_invalid _ plan here.reads tested fails refl)
 
-pub open_known : (store : List ℕ) (stream : ℕ) (s : Standing) → s ≡ looked_at 0 stream store → s.refusal ≡ 6 → stream < streams
-open_known store stream s seen six = (unopened_in store stream 0 s seen six).known
+      pub open_valid : valid ≡ true → T (valid_plan plan)
+      open_valid holds = of_holds _ (sym tested ∙ holds)
 
-pub open_valid : (plan : Plan) (valid : Bool) → valid ≡ valid_plan plan → not valid ≡ false → T (valid_plan plan)
-open_valid plan valid tested holds = of_holds _ (sym tested ∙ not-false valid holds)
+      pub open_taken : (a : Answer) (then : List ℕ) → valid ≡ true → a ≡ gives 0 0 0
+          → then ≡ written (start_of stream) (written 0 (header_of plan 0 (started plan)) (area_at stream store)) store
+          → keeps a then ≡ on_store store (on stream (Open plan))
+      open_taken a then holds given wrote =
+          on_written store stream here.whole here.known (Open plan) (open_made _ plan here.reads (open_valid holds) given refl) wrote
 
 -- ---- Back
-module _ (store : List ℕ) (stream : ℕ) (s : Standing) (seen : s ≡ looked_at 1 stream store) (known : s.refusal ≡ 0) where
+module _ (store : List ℕ) (stream : ℕ) (s : Standing) (seen : Ok s ≡ looked_at 1 stream store) where
   before : OpenedIn 1 store stream s
-  before = opened_in store stream 1 s seen known
+  before = opened_in store stream 1 seen refl
 
-  pub back_refused : (a : Answer) → s.count ≡ 0 → a ≡ refused 16 → keeps a store ≡ on_store store (on stream Back)
-  back_refused a none given = on_kept store stream before.whole before.known Back (back_none before.at none given)
+  pub back_refused : s.count ≡ 0 → keeps (refused 16) store ≡ on_store store (on stream Back)
+  back_refused none = on_kept store stream before.whole before.known Back (back_none before.at none refl)
 
   module _ (some : s.count ≡ 0 → ⊥) where
     pub back_may : MayWrite store stream s.plan (s.count - 1) s.figures
@@ -136,9 +178,9 @@ module _ (store : List ℕ) (stream : ℕ) (s : Standing) (seen : s ≡ looked_a
         on_written store stream before.whole before.known Back (back_taken before.at some refl read given refl) wrote
 
 -- ---- what an opened stream's numbers are known to be
-module _ (store : List ℕ) (stream : ℕ) (s : Standing) (seen : s ≡ looked_at 0 stream store) (known : s.refusal ≡ 0) where
+module _ (store : List ℕ) (stream : ℕ) (s : Standing) (seen : Ok s ≡ looked_at 0 stream store) where
   opened : OpenedIn 0 store stream s
-  opened = opened_in store stream 0 s seen known
+  opened = opened_in store stream 0 seen refl
 
   pub seen_plan : T (valid_plan s.plan)
   seen_plan = read_plan opened.at
@@ -159,15 +201,16 @@ module _ (store : List ℕ) (stream : ℕ) (s : Standing) (seen : s ≡ looked_a
   accepted_fits = record { fits = omega (arith, seen_count, seen_figures.accepted_in) }
 
   -- ---- Ask
-  module _ (size n : ℕ) (said : n ≡ first_refusal (ask_refusals s.plan s.figures size)) where
-    pub ask_first : (a : Answer) → (n ≡ 0 → ⊥) → a ≡ refused n → keeps a store ≡ on_store store (on stream (Ask size))
-    ask_first a applies given = on_kept store stream opened.whole opened.known (Ask size) (ask_refused opened.at size said applies given)
+  module _ (size : ℕ) where
+    pub ask_first : (r : Refused) → number_of r ≡ first_refusal (ask_refusals s.plan s.figures size)
+        → keeps (refused (number_of r)) store ≡ on_store store (on stream (Ask size))
+    ask_first r said = on_kept store stream opened.whole opened.known (Ask size) (ask_refused opened.at size said (number_positive r) refl)
 
-    pub ask_made : (asks : ℕ) (a : Answer) → n ≡ 0 → a ≡ gives asks 0 0 → asks ≡ sample_asked s.plan s.figures size
-        → keeps a store ≡ on_store store (on stream (Ask size))
-    ask_made asks a none given sample =
+    pub ask_made : (asks : ℕ) (a : Answer) → 0 ≡ first_refusal (ask_refusals s.plan s.figures size) → a ≡ gives asks 0 0
+        → asks ≡ sample_asked s.plan s.figures size → keeps a store ≡ on_store store (on stream (Ask size))
+    ask_made asks a said given sample =
         on_kept store stream opened.whole opened.known (Ask size)
-        (asked opened.at size said none (given ∙ ap (λ (m : ℕ). gives m 0 0) sample))
+        (asked opened.at size said refl (given ∙ ap (λ (m : ℕ). gives m 0 0) sample))
 
   -- ---- Read
   pub read_made : (figure : ℕ) (a : Answer) → a ≡ gives s.count s.figures.accepted figure → figure ≡ read_figure s.plan s.figures
@@ -177,14 +220,15 @@ module _ (store : List ℕ) (stream : ℕ) (s : Standing) (seen : s ≡ looked_a
       (has_read opened.at (given ∙ ap (gives s.count s.figures.accepted) same))
 
   -- ---- Newest
-  module _ (n handed : ℕ) (least : handed ≡ min n s.count) where
+  module _ (n handed : ℕ) (least : handed ≡ min s.count n) where
     pub handed_fits : Fits w32 handed
     handed_fits = record { fits = omega (arith, seen_count) }
 
     pub newest_made : (a : Answer) → a ≡ gives handed 0 0 → keeps a store ≡ on_store store (on stream (Newest n))
     newest_made a given =
+        let same : handed ≡ min n s.count = omega arith in
         on_kept store stream opened.whole opened.known (Newest n)
-        (newest_counted opened.at n (given ∙ ap (λ (m : ℕ). gives m 0 0) least))
+        (newest_counted opened.at n (given ∙ ap (λ (m : ℕ). gives m 0 0) same))
 
     pub stream_known : stream < streams
     stream_known = opened.known
@@ -195,15 +239,15 @@ module _ (store : List ℕ) (stream : ℕ) (s : Standing) (seen : s ≡ looked_a
     pub part_made : (part : Part) → part ≡ ending_at_last stream s.count handed → part ≡ newest_part store stream n
     unfolding newest_of
     part_made part ends =
+        let same : handed ≡ min n s.count = omega arith in
         ends
-        ∙ rw (least, opened.at.counted)
+        ∙ rw (same, opened.at.counted)
         (sym (opened_part store stream n opened.whole opened.known s.plan opened.entries opened.at.reads))
 
-pub part_shut : (store : List ℕ) (stream : ℕ) (s : Standing) (n : ℕ) → s ≡ looked_at 0 stream store → (s.refusal ≡ 0 → ⊥)
-    → no_part ≡ newest_part store stream n
-part_shut store stream s n seen some =
-    let given = shut store stream 0 s (Newest n) (refused s.refusal) seen some refl (unopened_newest n) in
-    sym (no_part_lem store stream n (λ z. some (ap (λ (o : StoreOutcome). o.answer.refusal) given ∙ z)))
+pub part_shut : (store : List ℕ) (stream n : ℕ) {r : Refused} → Err r ≡ looked_at 0 stream store → no_part ≡ newest_part store stream n
+part_shut store stream n {r} seen =
+    let given = shut store stream 0 (Newest n) seen (unopened_newest n) in
+    sym (no_part_lem store stream n (λ z. number_positive r (ap (λ (o : StoreOutcome). o.answer.refusal) given ∙ z)))
 
 -- the part that was found, inside the store, and as code takes it
 module _ (store : List ℕ) (stream n : ℕ) (found : Part) (same : found ≡ newest_part store stream n) where
@@ -218,25 +262,26 @@ module _ (store : List ℕ) (stream n : ℕ) (found : Part) (same : found ≡ ne
       let wide : found.offset + found.length - found.offset ≡ found.length = omega arith in
       rw (wide, same, add_comm (newest_part store stream n).offset start.1)
 
-pub ask_lots : (s : Standing) (size n : ℕ) → n ≡ first_refusal (ask_refusals s.plan s.figures size) → n ≡ 0 → is_continuous s.plan ≡ false
-ask_lots s size n said none = (allowed_ask _ _ _ (sym said ∙ none)).0
+module _ (p : Plan) (f : Figures) (size : ℕ) (said : 0 ≡ first_refusal (ask_refusals p f size)) where
+  pub ask_lots : is_continuous p ≡ false
+  ask_lots = (allowed_ask _ _ _ (sym said)).0
 
-pub ask_from : (s : Standing) (size n : ℕ) → n ≡ first_refusal (ask_refusals s.plan s.figures size) → n ≡ 0 → 1 ≤ size
-ask_from s size n said none = (allowed_ask _ _ _ (sym said ∙ none)).1
+  pub ask_from : 1 ≤ size
+  ask_from = (allowed_ask _ _ _ (sym said)).1
 
-pub ask_to : (s : Standing) (size n : ℕ) → n ≡ first_refusal (ask_refusals s.plan s.figures size) → n ≡ 0 → size ≤ largest_lot
-ask_to s size n said none = (allowed_ask _ _ _ (sym said ∙ none)).2
+  pub ask_to : size ≤ largest_lot
+  ask_to = (allowed_ask _ _ _ (sym said)).2
 
 pub ruleset shut_calls = (shut, unopened_enter, unopened_back, unopened_ask, unopened_read, unopened_newest)
 
 pub ruleset opens = (open_shut, open_twice, open_refused, open_taken, open_whole, open_known, open_valid)
 
-pub ruleset backs = (shut_calls, back_refused, back_may, back_made)
+pub ruleset backs = (shut_calls, back_refused)
 
 pub ruleset asks = (shut_calls, seen_plan, seen_credit, ask_first, ask_made, ask_lots, ask_from, ask_to)
 
 pub ruleset reads = (shut_calls, count_fits, accepted_fits, read_made)
 
-pub ruleset newest_calls = (shut_calls, handed_fits, newest_made)
+pub ruleset newest_calls = (shut_calls, handed_fits)
 
 pub ruleset newest_parts = (part_shut, seen_count, stream_known, handed_most, part_made)

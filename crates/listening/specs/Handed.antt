@@ -1,6 +1,5 @@
--- What the calls' functions hand to one another: the refusals before the area is looked at, what a call sees of a stream, what a write
--- asks, and what is handed back. Assumes nothing.
-use Rattle.std.specs.Prelude.{ℕ, ◌+◌, ◌<◌, ◌≡◌, cond, not, List, T, eqb, leb, length}
+-- What the calls' functions hand to one another: what a call sees of a stream, what a write asks, and what is handed back. Assumes nothing.
+use Rattle.std.specs.Prelude.{ℕ, ◌+◌, ◌<◌, ◌≡◌, cond, not, List, T, eqb, leb, length, Result, Err}
 use Rattle.little.specs.Little.{part}
 use Rattle.model.specs.declared.Plan.{Plan}
 use Rattle.model.specs.declared.Part.{Part}
@@ -10,18 +9,17 @@ use Rattle.model.specs.Stations.{valid_plan}
 use Rattle.model.specs.Area.{reading}
 use Rattle.model.specs.Store.{area_at}
 use Rattle.records.specs.Records.{LevelFits}
+use Rattle.rules.specs.declared.refusing.Refusal.{Refusal}
+use Rattle.rules.specs.declared.refusing.Refusal.TheVariants.{StoreLength, Stream}
 use Rattle.replay.specs.declared.Standing.{Standing}
-use Rattle.replay.specs.Standing.{nothing_stands, standing_of}
+use Rattle.replay.specs.Standing.{standing_of}
 
--- 1: the store has another length; 2: there is no such stream; 0 where neither applies
-unfoldable pub store_refusal : ℕ → ℕ → ℕ
-store_refusal store_bytes stream = cond (not (eqb store_bytes store_length)) 1 (cond (leb streams stream) 2 0)
-
--- what a call sees of a stream: 1 or 2, or what the area says, with the figures before so many of the newest entries
-unfoldable pub looked_at : ℕ → ℕ → List ℕ → Standing
+-- what a call sees of a stream, with the figures before so many of the newest entries: 1 where the store has another length, 2 where there
+-- is no such stream, and else what the area says
+unfoldable pub looked_at : ℕ → ℕ → List ℕ → Result Standing Refusal
 looked_at newest stream store =
-    cond (eqb (store_refusal (length store) stream) 0) (standing_of newest (reading (area_at stream store)))
-    (nothing_stands (store_refusal (length store) stream))
+    cond (not (eqb (length store) store_length)) (Err StoreLength)
+    (cond (leb streams stream) (Err Stream) (standing_of newest (reading (area_at stream store))))
 
 -- what a write in a stream's area asks: the store is whole, the stream is one of its own, the plan is valid, an area has a place for a
 -- record with that number, and the level figures are bytes

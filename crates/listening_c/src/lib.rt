@@ -4,15 +4,16 @@
 #![tactic(auto)]
 
 ghost use Rattle.std.specs.Prelude.{◌≡◌};
+ghost use Rattle.std.specs.Bool.{then_some};
 ghost use Rattle.model.specs.declared.Entry.TheVariants.{Lot, Run, Block, Stop};
 ghost use Rattle.model.specs.declared.Call.TheVariants.{Open, Enter, Back, Ask, Read, Newest};
 ghost use Rattle.model.specs.Store.{on_store, newest_part};
 ghost use Rattle.model.specs.Claims.{on};
 ghost use Rattle.model.specs.Stations.{plan_of};
 ghost use Rattle.lists.specs.Lists.{Listed};
-ghost use Rattle.measuring.specs.Judging.{judgement, limit_given, f_given};
+ghost use Rattle.measuring.specs.Judging.{judgement};
 
-use measuring::Judgement;
+use measuring::{Judgement, Specification};
 use model::{Answer, Part, Plan, Recording};
 
 #[unsafe(no_mangle)]
@@ -141,7 +142,7 @@ pub extern "C" fn listening_list(store: &mut [u8], calls: &[u32], answers: &mut 
     lists::list(store, calls, answers)
 }
 
-// C has no enum that holds a number, so a flag stands before each number that may be absent.
+// Kept: a flag stands before each number that may be absent, because C has no Option (the C interface).
 #[unsafe(no_mangle)]
 pub extern "C" fn listening_judge(
     values: &[i32],
@@ -153,13 +154,13 @@ pub extern "C" fn listening_judge(
     has_f: bool,
     f: u32,
 ) -> Judgement
-    ensures { result ≡ judgement values.now (limit_given has_lower lower) (limit_given has_upper upper) k (f_given has_f f) }
+    ensures { result ≡ judgement values.now (record { lower = then_some has_lower lower; upper = then_some has_upper upper; k = k; f = then_some has_f f }) }
 {
-    measuring::judge(
-        values,
-        measuring::limit_of(has_lower, lower),
-        measuring::limit_of(has_upper, upper),
+    let specification = Specification {
+        lower: has_lower.then_some(lower),
+        upper: has_upper.then_some(upper),
         k,
-        measuring::f_of(has_f, f),
-    )
+        f: has_f.then_some(f),
+    };
+    measuring::judge(values, specification)
 }

@@ -1,28 +1,30 @@
 -- Lists of calls, one call after the other. Assumes nothing.
-use Prim.Native.Nat.{ℕ, zero, suc, ◌+◌, ◌*◌, ◌/◌, ◌^◌, ◌≤◌, ◌<◌}
+use Prim.Native.Nat.{ℕ, zero, suc, ◌+◌, ◌*◌, ◌^◌, ◌≤◌, ◌<◌}
 use mathlib.Core.Path.{◌≡◌, refl, sym, ap, ◌∙◌}
-use mathlib.Core.Bool.{Bool, true, false}
-use mathlib.Core.List.{List, [], ◌∷◌, ◌++◌, append-nil}
-use native.Mathlib.Numerals.{add-one}
+use mathlib.Core.Bool.{true, false, and-true}
+use mathlib.Core.List.{List, [], ◌∷◌, ◌++◌, append-nil, append_assoc}
+use native.Mathlib.Nat.{add-zero}
 use native.Mathlib.Omega.{arith}
-use lib.Dec.{T, leb, lit<}
-use borrow.Author.Tests.{leb-true, leb-false, eq-eqb, ne_eqb}
-use lib.ListN.{length, get_or, take, drop, length-append}
-use lib.Seq.{drop-length, get_or-drop}
-use Rattle.little.specs.Little.{part, written}
-use Rattle.little.proofs.Laws.{written_next, written_nil}
+use lib.Dec.{T, lit<}
+use lib.ListN.{length, get_or, take, drop, length-append, drop_of_length-le}
+use lib.Seq.{get_or-drop, get_or-take, take_at, drop_at}
+use borrow.Rule.Slice.PartMut.{put_mid}
+use Rattle.std.specs.Prelude.{Some}
+use Rattle.std.specs.Simd.{first_chunks}
+use Rattle.std.proofs.lemmas.Grind.{elements, flat_map-append}
+use Rattle.std.proofs.lemmas.List.{get_or_past, take_more, take-take, drop-take, drop-drop}
+use Rattle.std.proofs.lemmas.List.Folds.{list_all-append}
+use Rattle.little.specs.Little.{part}
 use Rattle.model.specs.declared.Answer.{Answer}
 use Rattle.model.specs.Store.{Request, StoreOutcome, on_store, store_after, answers_to}
-use Rattle.model.specs.declared.Call.{Call}
 use Rattle.model.specs.Stations.{arguments, all_words}
-use Rattle.model.specs.Claims.{PastCall, history, are_words}
-use Rattle.model.proofs.Booleans.{both, both_of, both_true, never_both}
+use Rattle.model.specs.Claims.{PastCall, history, are_words, on}
+use Rattle.model.proofs.Booleans.{both, both_of, never_both}
 use Rattle.model.proofs.EveryList.{store_after_lem, every_list}
 use Rattle.numbering.specs.declared.Frame.{Frame}
-use Rattle.numbering.specs.declared.Frame.TheVariants.{Made, Bad}
 use Rattle.numbering.specs.Numbers.{frame_arguments, request_of}
 use Rattle.numbering.proofs.Small.{numbered_small, words_before}
-use Rattle.lists.specs.Lists.{call_length, answer_length, frame_at, is_made, all_made, requests_to, numbers_of, calls_in, is_list, past_in, Listed}
+use Rattle.lists.specs.Lists.{call_length, answer_length, frame_at, frame_of, all_made, requests_to, exist, requests_in, numbers_of, calls_in, is_list, past_in, Listed}
 
 answers_after : (store : List ℕ) (first second : List Request)
     → answers_to store (first ++ second) ≡ answers_to store first ++ answers_to (store_after store first) second
@@ -37,69 +39,103 @@ numbers_append [] second = refl
 numbers_append (a ∷ first) second =
     ap (λ (rest : List ℕ). a.refusal ∷ a.first ∷ a.second ∷ a.third ∷ rest) (numbers_append first second)
 
-length_one : (store : List ℕ) (f : Frame) → is_made f ≡ true → length (numbers_of (answers_to store (request_of f))) ≡ answer_length
-unfolding numbers_of answers_to request_of is_made
-length_one store (Made stream c) e = refl
-length_one store Bad e = absurd (never_both false e refl)
+length_numbers : (store : List ℕ) (calls : List Request) → length (numbers_of (answers_to store calls)) ≡ answer_length * length calls
+unfolding numbers_of answers_to
+length_numbers store [] = refl
+length_numbers store (r ∷ rest) = let later = length_numbers (on_store store r).store rest in omega arith
 
-module _ (store ns : List ℕ) where
-  -- one call more
-  store_next : (i : ℕ)
-      → store_after (store_after store (requests_to ns i)) (request_of (frame_at ns i)) ≡ store_after store (requests_to ns (i + 1))
-  unfolding requests_to
-  store_next i = rw (add-one i) (sym (store_after_lem store (requests_to ns i) (request_of (frame_at ns i))))
+-- room that is filled up to a place, and further by a part that is written there
+filled_more : (first more room : List ℕ) (at k : ℕ) → length first ≡ at
+    → put_mid at k (first ++ drop at room) more ≡ (first ++ more) ++ drop (at + k) room
+filled_more first more room at k e = rw (take_at first _ at e, drop_at first _ at e, drop-drop k at room, append_assoc) refl
 
-  numbers_next : (i : ℕ) → numbers_of (answers_to store (requests_to ns (suc i)))
-      ≡ numbers_of (answers_to store (requests_to ns i))
-      ++ numbers_of (answers_to (store_after store (requests_to ns i)) (request_of (frame_at ns i)))
-  unfolding requests_to
-  numbers_next i =
-      ap numbers_of (answers_after store (requests_to ns i) (request_of (frame_at ns i)))
-      ∙ numbers_append (answers_to store (requests_to ns i)) (answers_to (store_after store (requests_to ns i)) (request_of (frame_at ns i)))
+-- calls that were made from a store, as many as i, with their answers in room for more
+pub record MadeTo (store room : List ℕ) (calls : List Request) (i : ℕ) (store_then room_then : List ℕ) : Type 0 where
+  pub counted : length calls ≡ i
+  pub stored : store_then ≡ store_after store calls
+  pub answered : room_then ≡ numbers_of (answers_to store calls) ++ drop (answer_length * i) room
 
-  length_numbers : (i : ℕ) → all_made ns i ≡ true → length (numbers_of (answers_to store (requests_to ns i))) ≡ answer_length * i
-  unfolding all_made requests_to answers_to numbers_of
-  length_numbers zero e = refl
-  length_numbers (suc i) e =
-      let parts = both_true (all_made ns i) (is_made (frame_at ns i)) e in
-      let before = length_numbers i parts.0 in
-      let last = length_one (store_after store (requests_to ns i)) (frame_at ns i) parts.1 in
-      rw (numbers_next i, length-append) (omega arith)
+pub none_made : (store room : List ℕ) → MadeTo store room [] 0 store room
+unfolding store_after answers_to numbers_of
+none_made store room = record { counted = refl; stored = refl; answered = refl }
 
-  -- the answers so far, and the next one behind them
-  answers_next : (i : ℕ) (answers : List ℕ) → all_made ns (suc i) ≡ true → answer_length * i + answer_length ≤ length answers
-      → written (answer_length * i) (numbers_of (answers_to (store_after store (requests_to ns i)) (request_of (frame_at ns i))))
-      (written 0 (numbers_of (answers_to store (requests_to ns i))) answers)
-      ≡ written 0 (numbers_of (answers_to store (requests_to ns (i + 1)))) answers
-  unfolding all_made
-  answers_next i answers e fits =
-      let parts = both_true (all_made ns i) (is_made (frame_at ns i)) e in
-      let before = length_numbers i parts.0 in
-      let last = length_one (store_after store (requests_to ns i)) (frame_at ns i) parts.1 in
-      let next =
-      written_next 0 (numbers_of (answers_to store (requests_to ns i)))
-      (numbers_of (answers_to (store_after store (requests_to ns i)) (request_of (frame_at ns i)))) answers (omega arith) in
-      let at : 0 + length (numbers_of (answers_to store (requests_to ns i))) ≡ answer_length * i = omega arith in
-      rw (add-one i, numbers_next i) (rw at at next)
+-- one call more
+module _ {store room : List ℕ} {calls : List Request} {i : ℕ} {store_then room_then : List ℕ} (before : MadeTo store room calls i store_then room_then) where
+  numbers_next : (r : Request) → numbers_of (answers_to store (calls ++ r ∷ []))
+      ≡ numbers_of (answers_to store calls) ++ numbers_of ((on_store store_then r).answer ∷ [])
+  unfolding answers_to
+  numbers_next r =
+      rw before.stored (ap numbers_of (answers_after store calls (r ∷ [])) ∙ numbers_append (answers_to store calls) _)
 
-  -- a turn of the loop that makes the calls
-  pub turn_made : (i : ℕ) (answers : List ℕ) {before after written-before written_after : List ℕ} → all_made ns (suc i) ≡ true
-      → answer_length * i + answer_length ≤ length answers
-      → before ≡ store_after store (requests_to ns i)
-      → written-before ≡ written 0 (numbers_of (answers_to store (requests_to ns i))) answers
-      → after ≡ store_after before (request_of (frame_at ns i))
-      → written_after ≡ written (answer_length * i) (numbers_of (answers_to before (request_of (frame_at ns i)))) written-before
-      → (after ≡ store_after store (requests_to ns (i + 1)))
-      × (written_after ≡ written 0 (numbers_of (answers_to store (requests_to ns (i + 1)))) answers)
-  turn_made i answers e fits s a made wrote = (made ∙ rw s (store_next i), wrote ∙ rw (s, a) (answers_next i answers e fits))
+  pub one_made : (r : Request) {a : Answer} {after numbers filled : List ℕ}
+      → ◌≡◌ {A = StoreOutcome} (record { answer = a; store = after }) (on_store store_then r)
+      → numbers ≡ numbers_of (a ∷ []) → filled ≡ put_mid (answer_length * i) answer_length room_then numbers
+      → MadeTo store room (calls ++ r ∷ []) (i + 1) after filled
+  unfolding store_after
+  one_made r {a = a} {numbers = numbers} outcome wrote put =
+      record {
+        counted = rw length-append (omega (arith, before.counted));
+        stored = ap (λ (o : StoreOutcome). o.store) outcome ∙ rw before.stored (sym (store_after_lem store calls (r ∷ [])));
+        answered =
+            let full : length (numbers_of (answers_to store calls)) ≡ answer_length * i = omega (arith, length_numbers store calls, before.counted) in
+            let next : answer_length * (i + 1) ≡ answer_length * i + answer_length = omega arith in
+            let same : numbers ≡ numbers_of ((on_store store_then r).answer ∷ []) =
+            wrote ∙ ap (λ (o : StoreOutcome). numbers_of (o.answer ∷ [])) outcome in
+            put ∙ rw (before.answered, next, same, numbers_next r) (filled_more _ _ room _ _ full);
+      }
 
-  -- all the answers fill the room
-  pub answers_all : (n : ℕ) (answers : List ℕ) → all_made ns n ≡ true → length answers ≡ answer_length * n
-      → written 0 (numbers_of (answers_to store (requests_to ns n))) answers ≡ numbers_of (answers_to store (requests_to ns n))
-  unfolding written
-  answers_all n answers e room =
-      let full : 0 + length (numbers_of (answers_to store (requests_to ns n))) ≡ length answers = omega (arith, length_numbers n e) in
-      rw (full, drop-length answers) (append-nil (numbers_of (answers_to store (requests_to ns n))))
+-- all calls were made, and their answers fill the room
+pub made_all : {store room : List ℕ} {calls : List Request} {i : ℕ} {store_then room_then : List ℕ}
+    → MadeTo store room calls i store_then room_then → length room ≤ answer_length * i
+    → (store_then ≡ store_after store calls) × (room_then ≡ numbers_of (answers_to store calls))
+made_all {room = room} m full = (m.stored, m.answered ∙ rw (drop_of_length-le room full, append-nil))
+
+-- the first calls, and one more
+chunks_next : (n : ℕ) (ns : List ℕ)
+    → first_chunks call_length (suc n) ns ≡ first_chunks call_length n ns ++ part (call_length * n) call_length ns ∷ []
+unfolding part
+chunks_next zero ns = refl
+chunks_next (suc n) ns =
+    let next : call_length + call_length * n ≡ call_length * suc n = omega arith in
+    let behind : part (call_length * n) call_length (drop call_length ns) ≡ part (call_length * suc n) call_length ns =
+    rw (drop-drop (call_length * n) call_length ns, next) refl in
+    ap (λ (rest : List (List ℕ)). take call_length ns ∷ rest)
+    (chunks_next n (drop call_length ns) ∙ ap (λ (c : List ℕ). first_chunks call_length n (drop call_length ns) ++ c ∷ []) behind)
+
+-- a call in its list and by itself
+call_alone : (ns : List ℕ) (i : ℕ) → frame_of (part (call_length * i) call_length ns) ≡ frame_at ns i
+unfolding frame_at part
+call_alone ns i =
+    let call : List ℕ = drop (call_length * i) ns in
+    simp (
+      get_or-take 9 call 0 0 (lit< tt),
+      get_or-take 9 call 1 0 (lit< tt),
+      drop-take 2 7 call,
+      take-take 7 7 (drop (call_length * i + 2) ns) (omega arith),
+      drop-drop,
+      get_or-drop,
+      add-zero,
+    )
+
+pub exist_first : (n : ℕ) (ns : List ℕ) → exist (first_chunks call_length n ns) ≡ all_made ns n
+unfolding all_made
+exist_first zero ns = refl
+exist_first (suc n) ns =
+    ap exist (chunks_next n ns)
+    ∙ list_all-append _ (first_chunks call_length n ns) _ ∙ rw (exist_first n ns, call_alone ns n, and-true)
+
+pub requests_first : (n : ℕ) (ns : List ℕ) → requests_in (first_chunks call_length n ns) ≡ requests_to ns n
+unfolding requests_to
+requests_first zero ns = refl
+requests_first (suc n) ns =
+    ap requests_in (chunks_next n ns)
+    ∙ flat_map-append _ (first_chunks call_length n ns) _ ∙ rw (requests_first n ns, call_alone ns n, append-nil)
+
+-- the requests of the first calls, one more of which makes a frame
+pub request_next : (calls : List (List ℕ)) (i : ℕ) {f : Frame} → i < length calls → frame_of (get_or calls i []) ≡ Some f
+    → requests_in (take (i + 1) calls) ≡ requests_in (take i calls) ++ on f.stream f.call ∷ []
+unfolding request_of
+request_next calls i here e = rw (take_more calls i [] here) (flat_map-append _ (take i calls) _ ∙ rw e refl)
 
 -- the refusal numbers among the answers are those of the history
 past_history : (store : List ℕ) (calls : List Request) → past_in (numbers_of (answers_to store calls)) calls ≡ history store calls
@@ -109,16 +145,6 @@ past_history store (r ∷ rest) =
     ap (λ (later : List PastCall). record { request = r; refusal = (on_store store r).answer.refusal } ∷ later)
     (past_history (on_store store r).store rest)
 
--- calls that are made all exist up to any of them
-pub made_before : (ns : List ℕ) (i n : ℕ) → i ≤ n → all_made ns n ≡ true → all_made ns i ≡ true
-unfolding all_made
-made_before ns i zero h e = let none : i ≡ 0 = omega arith in rw none
-made_before ns i (suc n) h e = go (leb i n) refl (λ less. made_before ns i n less (both_true (all_made ns n) (is_made (frame_at ns n)) e).0)
-  where
-    go : (b : Bool) → leb i n ≡ b → (i ≤ n → all_made ns i ≡ true) → all_made ns i ≡ true
-    go true t earlier = earlier (leb-true i n t)
-    go false t earlier = let same : i ≡ suc n = omega (arith, leb-false i n t) in rw same e
-
 -- calls in 32-bit numbers have 32-bit arguments
 words_append : (first second : List Request) → T (are_words first) → T (are_words second) → T (are_words (first ++ second))
 unfolding are_words
@@ -127,15 +153,9 @@ words_append (r ∷ first) second a b =
     let parts = both_of (all_words (arguments r.made)) (are_words first) a in
     both (all_words (arguments r.made)) (are_words (first ++ second)) parts.0 (words_append first second parts.1 b)
 
-take_words : (n : ℕ) (ns : List ℕ) → ((k : ℕ) → get_or ns k 0 < 2 ^ 32) → (k : ℕ) → get_or (take n ns) k 0 < 2 ^ 32
-take_words zero ns words k = lit< tt
-take_words (suc n) [] words k = lit< tt
-take_words (suc n) (a ∷ ns) words zero = words 0
-take_words (suc n) (a ∷ ns) words (suc k) = take_words n ns (λ j. words (suc j)) k
-
 part_words : (at n : ℕ) (ns : List ℕ) → ((k : ℕ) → get_or ns k 0 < 2 ^ 32) → (k : ℕ) → get_or (part at n ns) k 0 < 2 ^ 32
 unfolding part
-part_words at n ns words = take_words n (drop at ns) (λ k. rw (get_or-drop at ns k 0) (words (at + k)))
+part_words at n ns words k = grind (arith, elements, words (at + k), get_or_past)
 
 requests_words : (ns : List ℕ) → ((k : ℕ) → get_or ns k 0 < 2 ^ 32) → (i : ℕ) → T (are_words (requests_to ns i))
 unfolding requests_to are_words frame_at
@@ -147,31 +167,6 @@ requests_words ns words (suc i) =
     (numbered_small (2 ^ 32) (get_or ns (call_length * i) 0) (get_or ns (call_length * i + 1) 0) (part (call_length * i + 2) frame_arguments ns)
     (words (call_length * i + 1)) (part_words (call_length * i + 2) frame_arguments ns words))
     tt))
-
--- one call of a list, made or passed over
-module _ (store ns answers : List ℕ) (i : ℕ) {f : Frame} (read : f ≡ frame_at ns i) where
-  pub one_made : {stream : ℕ} {c : Call} {r : Answer} {store_then answers_then : List ℕ} → f ≡ Made stream c
-      → ◌≡◌ {A = StoreOutcome} (record { answer = r; store = store_then }) (on_store store (record { stream = stream; made = c }))
-      → answers_then ≡ written (answer_length * i) (numbers_of (r ∷ [])) answers
-      → (store_then ≡ store_after store (request_of (frame_at ns i)))
-      × (answers_then ≡ written (answer_length * i) (numbers_of (answers_to store (request_of (frame_at ns i)))) answers)
-  unfolding request_of store_after answers_to
-  one_made made outcome wrote =
-      rw (sym read ∙ made) (
-        ap (λ (o : StoreOutcome). o.store) outcome,
-        wrote ∙ ap (λ (o : StoreOutcome). written (answer_length * i) (numbers_of (o.answer ∷ [])) answers) outcome,
-      )
-
-  pub one_passed : f ≡ Bad → (store ≡ store_after store (request_of (frame_at ns i)))
-      × (answers ≡ written (answer_length * i) (numbers_of (answers_to store (request_of (frame_at ns i)))) answers)
-  unfolding request_of store_after answers_to numbers_of
-  one_passed bad = rw (sym read ∙ bad) (refl, sym (written_nil (answer_length * i) answers))
-
--- no call yet
-pub none_made : (store ns answers : List ℕ) → (store ≡ store_after store (requests_to ns 0))
-    × (answers ≡ written 0 (numbers_of (answers_to store (requests_to ns 0))) answers)
-unfolding requests_to store_after answers_to numbers_of
-none_made store ns answers = (refl, sym (written_nil 0 answers))
 
 -- a list that is none
 pub list_refused : {store ns answers : List ℕ} → is_list ns answers ≡ false → Listed store ns answers false store answers
@@ -197,17 +192,3 @@ list_made {store} {ns} e words s a =
       answers_made = λ z. a;
       demand_three = λ z f stream known. rw (s, a, past_history store calls, f) (every_list calls (requests_words ns words (calls_in ns)) stream known);
     }
-
--- what keeps numbers from being a list of calls
-module _ (ns answers : List ℕ) where
-  pub odd_numbers : (length ns ≡ call_length * (length ns / call_length) → ⊥) → is_list ns answers ≡ false
-  unfolding is_list calls_in
-  odd_numbers e = rw (ne_eqb (length ns) (call_length * (length ns / call_length)) e)
-
-  pub other_room : length ns ≡ call_length * (length ns / call_length) → (length answers ≡ answer_length * (length ns / call_length) → ⊥) → is_list ns answers ≡ false
-  unfolding is_list calls_in
-  other_room l e = rw (eq-eqb (length ns) (call_length * (length ns / call_length)) l, ne_eqb (length answers) (answer_length * (length ns / call_length)) e)
-
-  pub by_calls : length ns ≡ call_length * (length ns / call_length) → length answers ≡ answer_length * (length ns / call_length) → is_list ns answers ≡ all_made ns (length ns / call_length)
-  unfolding is_list calls_in
-  by_calls l e = rw (eq-eqb (length ns) (call_length * (length ns / call_length)) l, eq-eqb (length answers) (answer_length * (length ns / call_length)) e)

@@ -1,13 +1,13 @@
 -- A list of calls as numbers: for a call its number as in a frame, its stream and its arguments, unused ones 0; four for an answer.
 -- Assumes nothing.
-use Rattle.std.specs.Prelude.{ℕ, zero, suc, ◌+◌, ◌*◌, ◌/◌, ◌<◌, ◌≡◌, Bool, true, false, ◌&&◌, List, [], ◌∷◌, ◌++◌, eqb, length, drop, get_or}
+use Rattle.std.specs.Prelude.{ℕ, zero, suc, ◌+◌, ◌*◌, ◌/◌, ◌<◌, ◌≡◌, Bool, true, false, ◌&&◌, List, [], ◌∷◌, ◌++◌, eqb, length, drop, get_or, Option, is_some}
+use Rattle.std.specs.List.{list_all, flat_map}
 use Rattle.little.specs.Little.{part}
 use Rattle.model.specs.declared.Answer.{Answer}
 use Rattle.model.specs.Sizes.{streams}
 use Rattle.model.specs.Store.{Request, fresh, store_after, answers_to}
 use Rattle.model.specs.Claims.{PastCall, DemandThree}
 use Rattle.numbering.specs.declared.Frame.{Frame}
-use Rattle.numbering.specs.declared.Frame.TheVariants.{Made, Bad}
 use Rattle.numbering.specs.Numbers.{frame_arguments, numbered, request_of}
 
 abbrev pub call_length : ℕ
@@ -17,23 +17,31 @@ abbrev pub answer_length : ℕ
 answer_length = 4
 
 -- the i-th call of a list of numbers
-unfoldable pub frame_at : List ℕ → ℕ → Frame
+unfoldable pub frame_at : List ℕ → ℕ → Option Frame
 frame_at ns i =
     numbered (get_or ns (call_length * i) 0) (get_or ns (call_length * i + 1) 0) (part (call_length * i + 2) frame_arguments ns)
-
-unfoldable pub is_made : Frame → Bool
-is_made (Made stream c) = true
-is_made Bad = false
 
 -- each of the first calls exists, with zeros for the arguments that it does not use
 unfoldable pub all_made : List ℕ → ℕ → Bool
 all_made ns zero = true
-all_made ns (suc i) = all_made ns i && is_made (frame_at ns i)
+all_made ns (suc i) = all_made ns i && is_some (frame_at ns i)
 
 -- the first calls
 unfoldable pub requests_to : List ℕ → ℕ → List Request
 requests_to ns zero = []
 requests_to ns (suc i) = requests_to ns i ++ request_of (frame_at ns i)
+
+-- the frame of a call by itself
+abbrev pub frame_of : List ℕ → Option Frame
+frame_of call = frame_at call 0
+
+-- each of the calls exists
+abbrev pub exist : List (List ℕ) → Bool
+exist calls = list_all (λ call. is_some (frame_of call)) calls
+
+-- their requests
+abbrev pub requests_in : List (List ℕ) → List Request
+requests_in calls = flat_map (λ call. request_of (frame_of call)) calls
 
 -- answers as numbers, refusal first
 unfoldable pub numbers_of : List Answer → List ℕ

@@ -77,25 +77,35 @@ module _ (at : ℕ) (s : List ℕ) where
         value_none (at + 2) s,
       )
 
-  -- four bytes, and k more behind them
-  value_more : (k : ℕ) → at + 4 ≤ length s
-      → get_or s at 0 + get_or s (at + 1) 0 * 256 + get_or s (at + 2) 0 * 65536 + get_or s (at + 3) 0 * 16777216
-      + value (part (at + 4) k s) * 4294967296 ≡ value (part at (suc (suc (suc (suc k)))) s)
-  value_more k h =
-      omega (
-        arith,
-        value_first at (suc (suc (suc k))) (at + 1) s (omega arith) (omega arith),
-        value_first (at + 1) (suc (suc k)) (at + 2) s (omega arith) (omega arith),
-        value_first (at + 2) (suc k) (at + 3) s (omega arith) (omega arith),
-        value_first (at + 3) k (at + 4) s (omega arith) (omega arith),
-      )
-
   pub value_four : at + 4 ≤ length s
       → get_or s at 0 + get_or s (at + 1) 0 * 256 + get_or s (at + 2) 0 * 65536 + get_or s (at + 3) 0 * 16777216 ≡ value (part at 4 s)
-  value_four h = omega (arith, value_more 0 h, value_none (at + 4) s)
+  value_four h =
+      omega (
+        arith,
+        value_first at 3 (at + 1) s (omega arith) (omega arith),
+        value_first (at + 1) 2 (at + 2) s (omega arith) (omega arith),
+        value_first (at + 2) 1 (at + 3) s (omega arith) (omega arith),
+        value_first (at + 3) 0 (at + 4) s (omega arith) (omega arith),
+        value_none (at + 4) s,
+      )
 
-  pub value_eight : at + 8 ≤ length s → value (part at 4 s) + value (part (at + 4) 4 s) * 4294967296 ≡ value (part at 8 s)
-  value_eight h = omega (arith, value_four (omega arith), value_more 4 (omega arith))
+  pub value_eight : at + 8 ≤ length s
+      → get_or s at 0 + get_or s (at + 1) 0 * 256 + get_or s (at + 2) 0 * 65536 + get_or s (at + 3) 0 * 16777216
+      + get_or s (at + 4) 0 * 4294967296 + get_or s (at + 5) 0 * 1099511627776 + get_or s (at + 6) 0 * 281474976710656
+      + get_or s (at + 7) 0 * 72057594037927936 ≡ value (part at 8 s)
+  value_eight h =
+      omega (
+        arith,
+        value_first at 7 (at + 1) s (omega arith) (omega arith),
+        value_first (at + 1) 6 (at + 2) s (omega arith) (omega arith),
+        value_first (at + 2) 5 (at + 3) s (omega arith) (omega arith),
+        value_first (at + 3) 4 (at + 4) s (omega arith) (omega arith),
+        value_first (at + 4) 3 (at + 5) s (omega arith) (omega arith),
+        value_first (at + 5) 2 (at + 6) s (omega arith) (omega arith),
+        value_first (at + 6) 1 (at + 7) s (omega arith) (omega arith),
+        value_first (at + 7) 0 (at + 8) s (omega arith) (omega arith),
+        value_none (at + 8) s,
+      )
 
 -- two lists as long that agree from index `at` up to at + k have the same part there
 part_ext : (at k : ℕ) (s t : List ℕ) → length s ≡ length t → ((i : ℕ) → at ≤ i → i < at + k → get_or s i 0 ≡ get_or t i 0) → part at k s ≡ part at k t

@@ -1,58 +1,48 @@
 // Little-endian numbers of two, four and eight bytes at an offset of a byte slice.
 //
-// The contracts cite `specs/Little.antt`; `proofs/Laws.antt` has the laws of its definitions. A number is read as one flat sum of
-// its bytes, which is compiled to one load.
+// The contracts cite `specs/Little.antt`; `proofs/Laws.antt` has the laws of its definitions.
 #![tactic(auto)]
 
-ghost use Rattle.std.specs.Prelude.{◌≡◌, ◌+◌, ◌≤◌, ◌<◌, length, get_or};
+ghost use Rattle.std.specs.Prelude.{◌≡◌, ℕ, ◌+◌, ◌≤◌, ◌<◌, length, get_or};
 ghost use Rattle.little.specs.Little.{bytes, value, part, written};
 
-// The number in the two bytes of s from index `at` on.
-pub fn get_u16(s: &[u8], at: usize) -> u16
-    requires { at + 2 ≤ length s.now }
-    ensures { result ≡ value (part at 2 s.now) }
-{
-    (byte(s, at) + byte(s, at + 1) * 256) as u16
+// A number that is kept in `WIDTH` bytes.
+pub trait Word: Copy + Into<u64> {
+    ghost WIDTH: { ℕ };
+
+    ghost number: { Self → ℕ };
+
+    const WIDTH: usize;
+
+    // The number in the bytes of s from index `at` on: std's flat sum of them, which is compiled to one load.
+    // Kept: one `read` for each width; in one loop over it, what is compared with 0 is read by bytes: `has_header` takes 1.5 times as long.
+    fn read(s: &[u8], at: usize) -> Self
+        requires { at + WIDTH ≤ length s.now }
+        ensures { number result ≡ value (part at WIDTH s.now) };
+
+    // It is converted to the same number.
+    ghost same: { (x : Self) (n : ℕ) → Self.converts x n → n ≡ number x };
 }
 
-// The number in the four bytes of s from index `at` on.
-pub fn get_u32(s: &[u8], at: usize) -> u32
-    requires { at + 4 ≤ length s.now }
-    ensures { result ≡ value (part at 4 s.now) }
+// The number in the bytes of s from index `at` on.
+pub fn get<W: Word>(s: &[u8], at: usize) -> W
+    requires { at + W.WIDTH ≤ length s.now }
+    ensures { W.number result ≡ value (part at W.WIDTH s.now) }
 {
-    byte(s, at) + byte(s, at + 1) * 256 + byte(s, at + 2) * 65536 + byte(s, at + 3) * 16777216
+    W::read(s, at)
 }
 
-// The number in the eight bytes of s from index `at` on.
-pub fn get_u64(s: &[u8], at: usize) -> u64
-    requires { at + 8 ≤ length s.now }
-    ensures { result ≡ value (part at 8 s.now) }
+// Writes x's bytes into s from index `at` on.
+// Speed: at a width that is known the loop is compiled to one store.
+pub fn put<W: Word>(s: &mut [u8], at: usize, x: W)
+    requires { at + W.WIDTH ≤ length s.old }
+    ensures { s.new ≡ written at (bytes W.WIDTH (W.number x)) s.old }
 {
-    get_u32(s, at) as u64 + get_u32(s, at + 4) as u64 * 4294967296
-}
-
-// Writes x's two bytes into s from index `at` on.
-pub fn put_u16(s: &mut [u8], at: usize, x: u16)
-    requires { at + 2 ≤ length s.old }
-    ensures { s.new ≡ written at (bytes 2 x) s.old }
-{
-    put(s, at, 2, x as u64);
-}
-
-// Writes x's four bytes into s from index `at` on.
-pub fn put_u32(s: &mut [u8], at: usize, x: u32)
-    requires { at + 4 ≤ length s.old }
-    ensures { s.new ≡ written at (bytes 4 x) s.old }
-{
-    put(s, at, 4, x as u64);
-}
-
-// Writes x's eight bytes into s from index `at` on.
-pub fn put_u64(s: &mut [u8], at: usize, x: u64)
-    requires { at + 8 ≤ length s.old }
-    ensures { s.new ≡ written at (bytes 8 x) s.old }
-{
-    put(s, at, 8, x);
+    let mut rest: u64 = x.into();
+    for i in 0..W::WIDTH {
+        s[at + i] = (rest % 256) as u8;
+        rest = rest / 256;
+    }
 }
 
 // The byte of s at an index.
@@ -63,16 +53,56 @@ pub fn byte(s: &[u8], at: usize) -> u32
     s[at] as u32
 }
 
-// Writes x's `width` low bytes into s from index `at` on.
-fn put(s: &mut [u8], at: usize, width: usize, x: u64)
-    requires { at + width ≤ length s.old }
-    ensures { s.new ≡ written at (bytes width x) s.old }
-{
-    let mut rest = x;
-    let mut i = 0;
-    while i < width {
-        s[at + i] = (rest % 256) as u8;
-        rest = rest / 256;
-        i += 1;
+impl Word for u16 {
+    ghost WIDTH = { 2 };
+
+    ghost number = { λ n. n };
+
+    const WIDTH: usize = 2;
+
+    #[tactic(auto, using(crate::proofs::Laws::value_two))]
+    fn read(s: &[u8], at: usize) -> u16 {
+        u16::from_le_bytes([s[at], s[at + 1]])
     }
+
+    ghost same = { λ x n e. e };
+}
+
+impl Word for u32 {
+    ghost WIDTH = { 4 };
+
+    ghost number = { λ n. n };
+
+    const WIDTH: usize = 4;
+
+    #[tactic(auto, using(crate::proofs::Laws::value_four))]
+    fn read(s: &[u8], at: usize) -> u32 {
+        u32::from_le_bytes([s[at], s[at + 1], s[at + 2], s[at + 3]])
+    }
+
+    ghost same = { λ x n e. e };
+}
+
+impl Word for u64 {
+    ghost WIDTH = { 8 };
+
+    ghost number = { λ n. n };
+
+    const WIDTH: usize = 8;
+
+    #[tactic(auto, using(crate::proofs::Laws::value_eight))]
+    fn read(s: &[u8], at: usize) -> u64 {
+        u64::from_le_bytes([
+            s[at],
+            s[at + 1],
+            s[at + 2],
+            s[at + 3],
+            s[at + 4],
+            s[at + 5],
+            s[at + 6],
+            s[at + 7],
+        ])
+    }
+
+    ghost same = { λ x n e. e };
 }

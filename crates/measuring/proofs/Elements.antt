@@ -9,9 +9,10 @@ use lib.IntN.{ℤ, pos, ◌+ℤ◌, ◌*ℤ◌, nat_abs}
 use mir.Syntax.{w32, w64}
 use mir.Val.{SFits}
 use mir.ValLaws.{to_z-of_z}
+use Rattle.std.proofs.lemmas.Int.{unsigned_abs-mul}
 use Rattle.measuring.specs.Judging.{largest_level}
 use Rattle.measuring.specs.Working.{Ranged}
-use Rattle.measuring.proofs.Sizes.{again, sized, near_again, widened, size_product}
+use Rattle.measuring.proofs.Sizes.{again, sized, near_again, widened}
 use Rattle.measuring.proofs.Levels.{level_at}
 use Rattle.measuring.proofs.Sums.{SumAt, sum_fits, sum_next}
 
@@ -34,7 +35,7 @@ module _ {x : ℤ} (level : Level x) where
   wide = again w64 (again w32 x)
 
   square_size : nat_abs (x *ℤ x) ≤ largest_level * largest_level
-  square_size = rw (size_product x x) (mul-le-mul {n₁ = nat_abs x} {m₁ = nat_abs x} {n₂ = largest_level} {m₂ = largest_level} level.small level.small)
+  square_size = rw (unsigned_abs-mul x x) (mul-le-mul {n₁ = nat_abs x} {m₁ = nat_abs x} {n₂ = largest_level} {m₂ = largest_level} level.small level.small)
 
   pub squared_fits : SFits w64 (wide *ℤ wide)
   squared_fits = rw (widened level.fits) (sized w64 (omega (arith, square_size)))

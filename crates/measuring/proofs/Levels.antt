@@ -9,9 +9,8 @@ use lib.Dec.{leb, ltb}
 use borrow.Author.Tests.{leb-true, le-leb, lt-leb, ltb-true, ltb-false}
 use lib.IntN.{ℤ, pos, negsuc, nat_abs}
 use lib.Signed.{le_z, lt_z}
+use Rattle.std.proofs.Common.{Option, Some}
 use Rattle.plans.proofs.Booleans.{both_true}
-use Rattle.measuring.specs.declared.Limit.{Limit}
-use Rattle.measuring.specs.declared.Limit.TheVariants.{Given}
 use Rattle.measuring.specs.Judging.{largest_level, is_level, are_levels, limit_in_range}
 
 pub level_size : (x : ℤ) → is_level x ≡ true → nat_abs x ≤ largest_level
@@ -20,7 +19,7 @@ level_size (pos n) e = leb-true n largest_level e
 level_size (negsuc n) e = omega (arith, leb-true n (largest_level - 1) (both_true (leb n (largest_level - 1)) true e).0)
 
 -- and of a limit that is given
-pub given_size : {limit : Limit} {x : ℤ} → limit ≡ Given x → limit_in_range limit ≡ true → nat_abs x ≤ largest_level
+pub given_size : {limit : Option ℤ} {x : ℤ} → limit ≡ Some x → limit_in_range limit ≡ true → nat_abs x ≤ largest_level
 unfolding limit_in_range
 given_size {limit} {x} given ranged = level_size x (rw given at ranged)
 

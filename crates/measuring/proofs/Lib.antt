@@ -4,7 +4,6 @@ pub mod Levels
 pub mod Sums
 pub mod Elements
 pub mod Spread
-pub mod Loops
 pub mod Inside
 pub mod Products
 pub mod Judged

@@ -3,7 +3,7 @@
 use mathlib.Core.Path.{◌≡◌, refl, sym, ap, subst}
 use mathlib.Core.Bool.{Bool, true, false, cond}
 use mathlib.Core.List.{List, [], ◌∷◌}
-use Prim.Native.Nat.{ℕ, zero, suc, ◌+◌, ◌-◌, ◌*◌, ◌≤◌, ◌<◌, ◌^◌}
+use Prim.Native.Nat.{ℕ, zero, suc, ◌+◌, ◌-◌, ◌*◌, ◌≤◌}
 use native.Mathlib.Decide.{dec_le}
 use native.Mathlib.Nat.{one-mul, mul-le-mul, le_refl, le_trans, add-sub_of_le}
 use native.Mathlib.Omega.{arith}
@@ -11,16 +11,16 @@ use borrow.Author.Tests.{ltb-true}
 use lib.Dec.{T, ltb}
 use lib.ListN.{length}
 use lib.IntN.{ℤ, pos, negsuc, ◌-ℤ◌, ◌*ℤ◌, nat_abs, *ℤ_comm}
-use lib.Signed.{mag, non_neg}
+use lib.Signed.{non_neg}
 use mir.Syntax.{w32, w64}
 use mir.Val.{SFits, to_z}
 use mir.ValLaws.{to_z-of_z, to_z_pos}
-use Rattle.measuring.specs.declared.samples.Sample.{Sample}
+use Rattle.std.proofs.lemmas.Int.{unsigned_abs-mul}
 use Rattle.measuring.specs.Fractions.{ratio, whole, minus, times}
-use Rattle.measuring.specs.Samples.{sum_of, total, squares, correction_factor, corrected_squares, spread, sample_of, variance}
+use Rattle.measuring.specs.Samples.{Sample, sum_of, total, squares, correction_factor, corrected_squares, spread, sample_of, variance}
 use Rattle.measuring.specs.Judging.{largest_sample, largest_level, are_levels}
 use Rattle.measuring.specs.Working.{Ranged, Measured}
-use Rattle.measuring.proofs.Sizes.{size_sum, size_product, times_one, square, sized, again, widened, widens}
+use Rattle.measuring.proofs.Sizes.{size_sum, times_one, square, sized, read, again}
 use Rattle.measuring.proofs.Levels.{level_size, level_first}
 
 -- Σ|x|
@@ -130,63 +130,61 @@ measured xs ranged =
       narrow = spread_at_most xs ranged.levels;
     }
 
--- ---- S as the code works it out, from the sums t and q that it has, for the search
+-- ---- S as the code works it out, from the sums t and q that it has
 
-module _ (xs : List ℤ) (ranged : Ranged xs) (q : ℤ) (q-fits : mag q < 2 ^ 63) (q-is : q ≡ squares xs) where
-  abbrev product : ℤ
-  product = to_z w64 (length xs) *ℤ again w64 q
+module _ (xs : List ℤ) (ranged : Ranged xs) where
+  squares_read : again w64 (squares xs) ≡ squares xs
+  squares_read = read w64 (rw (squares_are xs) (omega (arith, squares_at_most xs ranged.levels, ranged.few)))
 
-  product_is : product ≡ pos (length xs) *ℤ squares xs
-  product_is = rw (to_z_pos w64 (length xs) (omega (arith, ranged.few)), to_z-of_z w64 q (record { sfits = q-fits }), q-is) refl
+  total_small : nat_abs (total xs) ≤ largest_sample * largest_level
+  total_small = omega (arith, total_at_most xs ranged.levels, ranged.few)
 
-  product_size : nat_abs product ≤ length xs * length xs * (largest_level * largest_level)
-  product_size = rw (product_is, squares_are xs) (products_at_most xs ranged.levels)
+  pub sum_read : {u : ℤ} → u ≡ total xs → again w32 u ≡ total xs
+  sum_read u-is = rw u-is (read w32 {z = total xs} (omega (arith, total_small)))
 
-  pub product_fits : SFits w64 product
-  product_fits = sized w64 (omega (arith, product_size, count_squared ranged))
+  abbrev product : ℤ → ℤ
+  product q = to_z w64 (length xs) *ℤ again w64 q
 
-module _ (xs : List ℤ) (ranged : Ranged xs) (t : ℤ) (t-fits : mag t < 2 ^ 31) (t-is : t ≡ total xs) where
-  pub total_widens : SFits w64 (again w32 t)
-  total_widens = widens {z = t} (record { sfits = t-fits })
+  product_is : {q : ℤ} → q ≡ squares xs → product q ≡ pos (length xs) *ℤ squares xs
+  product_is q-is = rw (q-is, to_z_pos w64 (length xs) (omega (arith, ranged.few)), squares_read) refl
 
-  abbrev whole_square : ℤ
-  whole_square = again w64 (again w32 t) *ℤ again w64 (again w32 t)
+  product_size : {q : ℤ} → q ≡ squares xs → nat_abs (product q) ≤ length xs * length xs * (largest_level * largest_level)
+  product_size q-is = rw (product_is q-is, squares_are xs) (products_at_most xs ranged.levels)
 
-  square_was : whole_square ≡ total xs *ℤ total xs
-  square_was = rw (widened {z = t} (record { sfits = t-fits }), t-is) refl
+  pub product_fits : {q : ℤ} → q ≡ squares xs → SFits w64 (product q)
+  product_fits q-is = sized w64 (omega (arith, product_size q-is, count_squared ranged))
 
-  square_size : nat_abs whole_square ≤ length xs * length xs * (largest_level * largest_level)
-  square_size = rw (square_was, size_product (total xs) (total xs)) (omega (arith, squared_total xs, products_at_most xs ranged.levels))
+  module _ {t u : ℤ} (u-is : u ≡ total xs) (t-is : t ≡ again w32 u) where
+    total_read : again w64 t ≡ total xs
+    total_read = rw (t-is, sum_read u-is) (read w64 {z = total xs} (omega (arith, total_small)))
 
-  pub square_fits : SFits w64 whole_square
-  square_fits = sized w64 (omega (arith, square_size, count_squared ranged))
+    abbrev whole_square : ℤ
+    whole_square = again w64 t *ℤ again w64 t
 
-  module _ (q : ℤ) (q-fits : mag q < 2 ^ 63) (q-is : q ≡ squares xs) where
-    abbrev difference : ℤ
-    difference = again w64 (product xs ranged q q-fits q-is) -ℤ again w64 whole_square
+    square_was : whole_square ≡ total xs *ℤ total xs
+    square_was = rw total_read refl
 
-    difference_was : difference ≡ spread xs
-    unfolding spread
-    difference_was =
-        rw (
-          to_z-of_z w64 (product xs ranged q q-fits q-is) (product_fits xs ranged q q-fits q-is),
-          to_z-of_z w64 whole_square square_fits,
-          product_is xs ranged q q-fits q-is,
-          square_was,
-        ) refl
+    square_size : nat_abs whole_square ≤ length xs * length xs * (largest_level * largest_level)
+    square_size = rw (square_was, unsigned_abs-mul (total xs) (total xs)) (omega (arith, squared_total xs, products_at_most xs ranged.levels))
 
-    pub difference_fits : SFits w64 difference
-    difference_fits = rw difference_was (sized w64 (omega (arith, spread_at_most xs ranged.levels, count_squared ranged)))
+    pub square_fits : SFits w64 whole_square
+    square_fits = sized w64 (omega (arith, square_size, count_squared ranged))
 
-    abbrev worked_out : Sample
-    worked_out = record { count = length xs; sum = again w32 t; spread = again w64 difference }
+    module _ {q : ℤ} (q-is : q ≡ squares xs) where
+      abbrev difference : ℤ
+      difference = again w64 (product q) -ℤ again w64 whole_square
 
-    pub worked_out_is : worked_out ≡ sample_of xs
-    unfolding sample_of
-    worked_out_is =
-        rw (to_z-of_z w64 difference difference_fits, difference_was, to_z-of_z w32 t (record { sfits = t-fits }), t-is) refl
+      difference_was : difference ≡ spread xs
+      unfolding spread
+      difference_was =
+          rw (to_z-of_z w64 (product q) (product_fits q-is), to_z-of_z w64 whole_square square_fits, product_is q-is, square_was) refl
 
-    pub worked_out_measured : Measured worked_out
-    worked_out_measured = subst Measured (sym worked_out_is) (measured xs ranged)
+      pub difference_fits : SFits w64 difference
+      difference_fits = rw difference_was (sized w64 (omega (arith, spread_at_most xs ranged.levels, count_squared ranged)))
 
-pub ruleset sampling = (product_fits, total_widens, square_fits, difference_fits, worked_out_is, worked_out_measured)
+      pub worked_out_is : record { count = length xs; sum = again w32 u; spread = again w64 difference } ≡ sample_of xs
+      unfolding sample_of
+      worked_out_is = rw (to_z-of_z w64 difference difference_fits, difference_was, sum_read u-is) refl
+
+pub measured_is : {xs : List ℤ} {s : Sample} → Ranged xs → s ≡ sample_of xs → Measured s
+measured_is {xs} ranged e = subst Measured (sym e) (measured xs ranged)

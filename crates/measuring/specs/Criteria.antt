@@ -1,9 +1,8 @@
 -- The k and F criteria: document 000, 5.1.2.3.4, and Table D.3, lines 10 to 13. Squares are compared, so that no root is taken. Assumes
 -- nothing.
 use Rattle.std.specs.Prelude.{ℕ, Bool, ◌&&◌, ℤ, pos}
-use Rattle.measuring.specs.declared.samples.Sample.{Sample}
 use Rattle.measuring.specs.Fractions.{Fraction, ratio, whole, minus, times, squared, at_most}
-use Rattle.measuring.specs.Samples.{mean, variance}
+use Rattle.measuring.specs.Samples.{Sample, mean, variance}
 
 -- how far the mean lies inside a limit, U - mean and mean - L: line 10's quality indices, times s
 unfoldable pub below_upper : ℤ → Sample → Fraction

@@ -1,6 +1,5 @@
 -- A sample's numbers: document 000, Table D.3, lines 1 to 7. Assumes nothing.
-use Rattle.std.specs.Prelude.{◌-◌, ◌*◌, List, [], ◌∷◌, length, ℤ, pos, ◌+ℤ◌, ◌-ℤ◌, ◌*ℤ◌}
-use Rattle.measuring.specs.declared.samples.Sample.{Sample}
+use Rattle.std.specs.Prelude.{◌-◌, ◌*◌, List, [], ◌∷◌, length, ℕ, ℤ, pos, ◌+ℤ◌, ◌-ℤ◌, ◌*ℤ◌}
 use Rattle.measuring.specs.Fractions.{Fraction, ratio, whole, minus}
 
 -- the sum of what f makes of each measurement
@@ -29,6 +28,11 @@ unfoldable pub spread : List ℤ → ℤ
 spread xs = pos (length xs) *ℤ squares xs -ℤ total xs *ℤ total xs
 
 -- what the criteria ask of a sample: n, Σx and S
+pub record Sample : Type 0 where
+  pub count : ℕ
+  pub sum : ℤ
+  pub spread : ℤ
+
 unfoldable pub sample_of : List ℤ → Sample
 sample_of xs = record { count = length xs; sum = total xs; spread = spread xs }
 

@@ -3,30 +3,28 @@
 #![tactic(auto)]
 
 ghost use Rattle.std.specs.Prelude.{◌≡◌};
-ghost use Rattle.measuring.specs.Judging.{refused, judged, judgement, limit_given, f_given};
-ghost use Rattle.measuring.specs.Working.{Judgeable};
+ghost use Rattle.measuring.specs.Judging.{refused, judged, judgement};
+ghost use Rattle.measuring.specs.Working.{refusal_number};
 
 pub mod claims;
 pub mod criteria;
 pub mod ranges;
 pub mod samples;
 
-// A specification limit, L or U.
-#[derive(Clone, Copy)]
-pub enum Limit {
-    Given(i32),
-    Absent,
-}
+use ranges::{Judgeable, Refusal};
 
-// The acceptability constant F: only a double-sided specification has one.
+// What a sample is judged by: the limits L and U, k in hundredths, and F in thousandths. Only a double-sided specification has an F.
 #[derive(Clone, Copy)]
-pub enum FConstant {
-    Thousandths(u32),
-    NotApplicable,
+pub struct Specification {
+    pub lower: Option<i32>,
+    pub upper: Option<i32>,
+    pub k: u32,
+    pub f: Option<u32>,
 }
 
 // What a judgement gives, laid out as C lays it out: a refusal, 18 or 19, or 0; how many measurements lie outside the limits; n U - Σx and
 // Σx - n L; and whether none lies outside, every given limit meets k, and F is met.
+// Kept: the refusal is a number beside the answer, and no Result, because C is handed this struct (`listening_judge`).
 #[repr(C)]
 #[derive(Clone, Copy)]
 pub struct Judgement {
@@ -39,49 +37,23 @@ pub struct Judgement {
     pub f_met: bool,
 }
 
-// A limit where the flag says that it is given.
-#[tactic(auto, unfolding(crate::specs::Judging::limit_given))]
-pub fn limit_of(given: bool, value: i32) -> Limit
-    ensures { result ≡ limit_given given value }
+// Judges the measurements by a specification.
+pub fn judge(values: &[i32], specification: Specification) -> Judgement
+    ensures { result ≡ judgement values.now specification }
 {
-    if given {
-        return Limit::Given(value);
+    match specification.check(values) {
+        Ok(judgeable) => judgeable.judge(),
+        Err(refusal) => refused_by(refusal),
     }
-    Limit::Absent
-}
-
-// F where the flag says that it is given.
-#[tactic(auto, unfolding(crate::specs::Judging::f_given))]
-pub fn f_of(given: bool, value: u32) -> FConstant
-    ensures { result ≡ f_given given value }
-{
-    if given {
-        return FConstant::Thousandths(value);
-    }
-    FConstant::NotApplicable
-}
-
-// Judges the measurements by their limits, k in hundredths and F.
-#[tactic(auto, unfolding(crate::specs::Judging::judgement))]
-pub fn judge(values: &[i32], lower: Limit, upper: Limit, k: u32, f: FConstant) -> Judgement
-    ensures { result ≡ judgement values.now lower upper k f }
-{
-    if !ranges::in_range(values, lower, upper, k, f) {
-        return refused_by(18);
-    }
-    if !ranges::is_specification(lower, upper, f) {
-        return refused_by(19);
-    }
-    judge_in_range(values, lower, upper, k, f)
 }
 
 // Zeros, and no for each.
 #[tactic(auto, unfolding(crate::specs::Judging::refused))]
-fn refused_by(refusal: u32) -> Judgement
-    ensures { result ≡ refused refusal }
+fn refused_by(refusal: Refusal) -> Judgement
+    ensures { result ≡ refused (refusal_number refusal) }
 {
     Judgement {
-        refusal,
+        refusal: refusal as u32,
         outside: 0,
         to_upper: 0,
         to_lower: 0,
@@ -91,24 +63,24 @@ fn refused_by(refusal: u32) -> Judgement
     }
 }
 
-fn judge_in_range(values: &[i32], lower: Limit, upper: Limit, k: u32, f: FConstant) -> Judgement
-    requires { Judgeable values.now lower upper k f }
-    ensures { result ≡ judged values.now lower upper k f }
-{
-    let sample = samples::sample_of(values);
-    let outside = criteria::outside(values, lower, upper);
-    let to_upper = criteria::to_upper(upper, sample);
-    let to_lower = criteria::to_lower(lower, sample);
-    let k_met = criteria::is_k_met(lower, k, sample, to_lower);
-    let k_met = k_met & criteria::is_k_met(upper, k, sample, to_upper);
-    let f_met = criteria::is_f_met(lower, upper, f, sample);
-    Judgement {
-        refusal: 0,
-        outside,
-        to_upper,
-        to_lower,
-        none_outside: outside == 0,
-        k_met,
-        f_met,
+impl<'a> Judgeable<'a> {
+    #[tactic(auto, using(crate::proofs::Judged::k_above, crate::proofs::Judged::k_below), unfolding(crate::specs::Judging::judged, crate::specs::Judging::k_met))]
+    fn judge(&self) -> Judgement
+        ensures { result ≡ judged self.now.values self.now.specification }
+    {
+        let specification = self.specification;
+        let sample = self.values.sample();
+        let outside = specification.outside(&self.values);
+        let to_upper = specification.to_upper(sample);
+        let to_lower = specification.to_lower(sample);
+        Judgement {
+            refusal: 0,
+            outside,
+            to_upper: to_upper.0,
+            to_lower: to_lower.0,
+            none_outside: outside == 0,
+            k_met: specification.is_k_met(sample, to_lower, to_upper),
+            f_met: specification.is_f_met(sample),
+        }
     }
 }

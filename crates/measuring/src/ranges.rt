@@ -1,9 +1,13 @@
 // Refusals 18 and 19: the ranges of card 2, and which limits go with F.
-ghost use Rattle.std.specs.Prelude.{◌≡◌};
-ghost use Rattle.measuring.specs.Judging.{is_level, are_levels, limit_in_range, f_in_range, in_range, is_not_applicable, is_specification};
+ghost use Rattle.std.specs.Prelude.{◌≡◌, MatchResult};
+ghost use Rattle.measuring.specs.declared.Specification.{Specification as Given};
+ghost use Rattle.measuring.specs.Judging.{is_level, are_levels, limit_in_range, f_in_range, in_range, is_specification, refused, judged, judgement};
+ghost use Rattle.measuring.specs.Working.{Allowed, refusal_number};
 
-use crate::{FConstant, Limit};
+use crate::Specification;
+use crate::samples::Measurements;
 use plans::limits;
+use std::marker::Model;
 
 const LEAST_SAMPLE: usize = 2;
 
@@ -18,51 +22,79 @@ const LARGEST_K: u32 = 1000;
 // In thousandths.
 const LARGEST_F: u32 = 1000;
 
-// Whether refusal 18 does not apply.
-#[tactic(auto, unfolding(crate::specs::Judging::in_range, plans::specs::Limits::within))]
-pub(crate) fn in_range(values: &[i32], lower: Limit, upper: Limit, k: u32, f: FConstant) -> bool
-    ensures { result ≡ in_range values.now lower upper k f }
-{
-    if values.len() < LEAST_SAMPLE {
-        return false;
-    }
-    if values.len() > LARGEST_SAMPLE {
-        return false;
-    }
-    if !are_levels(values) {
-        return false;
-    }
-    if !is_limit_in_range(lower) {
-        return false;
-    }
-    if !is_limit_in_range(upper) {
-        return false;
-    }
-    if !limits::within(1, LARGEST_K, k) {
-        return false;
-    }
-    is_f_in_range(f)
+// Why a judgement is refused, by the papers' number.
+#[derive(Clone, Copy)]
+pub(crate) enum Refusal {
+    OutOfRange = 18,
+    NoSpecification = 19,
 }
 
-// Whether refusal 19 does not apply.
-#[tactic(auto, unfolding(crate::specs::Judging::is_specification))]
-pub(crate) fn is_specification(lower: Limit, upper: Limit, f: FConstant) -> bool
-    ensures { result ≡ is_specification lower upper f }
-{
-    match lower {
-        Limit::Given(l) => match upper {
-            Limit::Given(u) => {
-                if is_not_applicable(f) {
-                    return false;
-                }
-                l < u
-            }
-            Limit::Absent => is_not_applicable(f),
-        },
-        Limit::Absent => match upper {
-            Limit::Given(_) => is_not_applicable(f),
-            Limit::Absent => false,
-        },
+// A specification that 18 and 19 leave.
+#[derive(Clone, Copy)]
+pub(crate) struct Checked {
+    pub(crate) given: Specification,
+}
+
+impl Model for Checked {
+    ghost Value = { Given };
+
+    ghost view = { λ c. c.given };
+
+    ghost invariant = { λ c. Allowed c.given };
+
+    ghost inverse = { λ s. record { given = s } };
+}
+
+// Measurements and a specification that 18 and 19 leave.
+#[derive(Drop)]
+pub(crate) struct Judgeable<'a> {
+    pub(crate) values: Measurements<'a>,
+    pub(crate) specification: Checked,
+}
+
+impl Specification {
+    // Tests 18, then 19.
+    #[tactic(auto, using(crate::proofs::Judged::ranged, crate::proofs::Judged::allowed), unfolding(crate::specs::Judging::judgement))]
+    pub(crate) fn check<'a>(self, values: &'a [i32]) -> Result<Judgeable<'a>, Refusal>
+        ensures { MatchResult result
+            (λ j. (j.values ≡ values.now) × (j.specification ≡ self) × (judgement values.now self ≡ judged values.now self))
+            (λ r. judgement values.now self ≡ refused (refusal_number r)) }
+    {
+        if !self.is_in_range(values) {
+            return Err(Refusal::OutOfRange);
+        }
+        if !self.is_specification() {
+            return Err(Refusal::NoSpecification);
+        }
+        Ok(Judgeable {
+            values: Measurements { values },
+            specification: Checked { given: self },
+        })
+    }
+
+    // Whether refusal 18 does not apply.
+    #[tactic(auto, unfolding(crate::specs::Judging::in_range, crate::specs::Judging::limit_in_range, crate::specs::Judging::f_in_range, plans::specs::Limits::within))]
+    fn is_in_range(self, values: &[i32]) -> bool
+        ensures { result ≡ in_range values.now self }
+    {
+        (LEAST_SAMPLE..=LARGEST_SAMPLE).contains(&values.len())
+            && are_levels(values)
+            && self.lower.is_none_or(is_level)
+            && self.upper.is_none_or(is_level)
+            && limits::within(1, LARGEST_K, self.k)
+            && self.f.is_none_or(|f| limits::within(1, LARGEST_F, f))
+    }
+
+    // Whether refusal 19 does not apply.
+    #[tactic(auto, unfolding(crate::specs::Judging::is_specification, crate::specs::Judging::is_not_applicable))]
+    fn is_specification(self) -> bool
+        ensures { result ≡ is_specification self.lower self.upper self.f }
+    {
+        match (self.lower, self.upper) {
+            (Some(l), Some(u)) => self.f.is_some() && l < u,
+            (None, None) => false,
+            _ => self.f.is_none(),
+        }
     }
 }
 
@@ -71,50 +103,12 @@ pub(crate) fn is_specification(lower: Limit, upper: Limit, f: FConstant) -> bool
 fn is_level(x: i32) -> bool
     ensures { result ≡ is_level x }
 {
-    if x < 0 - LARGEST_LEVEL {
-        return false;
-    }
-    x <= LARGEST_LEVEL
+    (-LARGEST_LEVEL..=LARGEST_LEVEL).contains(&x)
 }
 
+#[tactic(auto, unfolding(crate::specs::Judging::are_levels))]
 fn are_levels(values: &[i32]) -> bool
     ensures { result ≡ are_levels values.now }
 {
-    let mut ok = true;
-    let mut i = 0;
-    while i < values.len() {
-        ok = ok & is_level(values[i]);
-        i += 1;
-    }
-    ok
-}
-
-#[tactic(auto, unfolding(crate::specs::Judging::limit_in_range))]
-fn is_limit_in_range(limit: Limit) -> bool
-    ensures { result ≡ limit_in_range limit }
-{
-    match limit {
-        Limit::Given(x) => is_level(x),
-        Limit::Absent => true,
-    }
-}
-
-#[tactic(auto, unfolding(crate::specs::Judging::f_in_range))]
-fn is_f_in_range(f: FConstant) -> bool
-    ensures { result ≡ f_in_range f }
-{
-    match f {
-        FConstant::Thousandths(f) => limits::within(1, LARGEST_F, f),
-        FConstant::NotApplicable => true,
-    }
-}
-
-#[tactic(auto, unfolding(crate::specs::Judging::is_not_applicable))]
-fn is_not_applicable(f: FConstant) -> bool
-    ensures { result ≡ is_not_applicable f }
-{
-    match f {
-        FConstant::Thousandths(_) => false,
-        FConstant::NotApplicable => true,
-    }
+    values.iter().all(|x| is_level(*x))
 }

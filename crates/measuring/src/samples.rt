@@ -1,56 +1,70 @@
 // What the criteria ask of a sample, summed and squared exactly.
-ghost use Rattle.std.specs.Prelude.{◌≡◌};
-ghost use Rattle.measuring.specs.Samples.{total, squares, sample_of};
+ghost use Rattle.std.specs.Prelude.{◌≡◌, List, ℤ};
+ghost use Rattle.measuring.specs.Samples.{Sample as Figures, total, squares, sample_of};
 ghost use Rattle.measuring.specs.Working.{Ranged, Measured};
 
-// A sample's n, Σx, and S = n Σx² - (Σx)².
+use std::marker::Model;
+
+// A sample's n, Σx, and S = n Σx² - (Σx)², as large at most as measurements that refusal 18 leaves can make them.
 #[derive(Clone, Copy)]
-pub struct Sample {
-    pub count: u32,
-    pub sum: i32,
-    pub spread: i64,
+pub(crate) struct Sample {
+    pub(crate) count: u32,
+    pub(crate) sum: i32,
+    pub(crate) spread: i64,
 }
 
-pub(crate) fn sample_of(values: &[i32]) -> Sample
-    requires { Ranged values.now }
-    ensures value { result ≡ sample_of values.now }
-    ensures bounded { Measured result }
-{
-    let sum = sum(values);
-    let total = sum as i64;
-    let spread = values.len() as i64 * sum_of_squares(values) - total * total;
-    Sample {
-        count: values.len() as u32,
-        sum,
-        spread,
+impl Model for Sample {
+    ghost Value = { Figures };
+
+    ghost view = { λ s. record { count = s.count; sum = s.sum; spread = s.spread } };
+
+    ghost invariant = { λ s. Measured (record { count = s.count; sum = s.sum; spread = s.spread }) };
+
+    ghost inverse = { λ s. record { count = s.count; sum = s.sum; spread = s.spread } };
+}
+
+// Measurements that refusal 18 leaves: 2 to 100 levels.
+#[derive(Drop)]
+pub(crate) struct Measurements<'a> {
+    pub(crate) values: &'a [i32],
+}
+
+impl<'a> Model for Measurements<'a> {
+    ghost Value = { List ℤ };
+
+    ghost view = { λ m. m.values.now };
+
+    ghost invariant = { λ m. Ranged m.values.now };
+}
+
+impl<'a> Measurements<'a> {
+    // n, Σx and S.
+    pub(crate) fn sample(&self) -> Sample
+        ensures { result ≡ sample_of self.now }
+    {
+        let (sum, squares) = sums(self.values);
+        let total = i64::from(sum);
+        let spread = self.values.len() as i64 * squares - total * total;
+        Sample {
+            count: self.values.len() as u32,
+            sum,
+            spread,
+        }
     }
 }
 
-// Σx.
-fn sum(values: &[i32]) -> i32
+// Σx and Σx².
+fn sums(values: &[i32]) -> (i32, i64)
     requires { Ranged values.now }
-    ensures { result ≡ total values.now }
+    ensures sum { result.0 ≡ total values.now }
+    ensures squares { result.1 ≡ squares values.now }
 {
     let mut sum: i32 = 0;
-    let mut i = 0;
-    while i < values.len() {
-        sum += values[i];
-        i += 1;
+    let mut squares: i64 = 0;
+    for x in values {
+        sum += *x;
+        let x = i64::from(*x);
+        squares += x * x;
     }
-    sum
-}
-
-// Σx².
-fn sum_of_squares(values: &[i32]) -> i64
-    requires { Ranged values.now }
-    ensures { result ≡ squares values.now }
-{
-    let mut sum: i64 = 0;
-    let mut i = 0;
-    while i < values.len() {
-        let x = values[i] as i64;
-        sum += x * x;
-        i += 1;
-    }
-    sum
+    (sum, squares)
 }

@@ -11,6 +11,7 @@ use plans::credit::Credit;
 use plans::level::LevelState;
 
 // Open's arguments.
+// Kept: kind and option are numbers, and 0 is no ceiling, since `listening::open` answers for every plan (refusal 5, `valid_plan`).
 #[derive(Clone, Copy)]
 pub struct Plan {
     // 1 credit, 2 level, 3 continuous
@@ -25,6 +26,7 @@ pub struct Plan {
 }
 
 // Where the raw recording behind an entry is found: paper 02, card 1.
+// Kept: 0 for none, since `listening::lot` answers for every number (refusal 17, `lacks_recording`).
 #[derive(Clone, Copy)]
 pub struct Recording {
     // 0 is no recording's
@@ -63,6 +65,7 @@ pub enum Entry {
         recording: Recording,
     },
     Stop {
+        // Kept: a number, since `listening::stop` answers for every number (refusal 15).
         why: u32,
         days: u32,
     },
@@ -81,6 +84,7 @@ pub struct HeardLot {
 }
 
 // A record as it stands in the bytes, whatever its kind.
+// Kept: kind and flag are numbers, since `records::get_record_at` gives every byte as it stands (`record_in`).
 #[derive(Clone, Copy)]
 pub struct Record {
     pub kind: u8,
@@ -106,6 +110,7 @@ pub enum Call {
 }
 
 // What a call gives: its refusal number, 0 for none, and three numbers. It is laid out as C lays it out, to be handed over whole.
+// Kept: a refusal's number beside numbers, and no Result, as `listening_answer` of include/listening.h has them.
 #[repr(C)]
 #[derive(Clone, Copy)]
 pub struct Answer {
@@ -116,6 +121,7 @@ pub struct Answer {
 }
 
 // A part of the store: where it starts, and how many bytes it has. It is laid out as C lays it out.
+// Kept: a length beside an offset, and no slice, as `listening_part` of include/listening.h has them.
 #[repr(C)]
 #[derive(Clone, Copy)]
 pub struct Part {
@@ -127,6 +133,7 @@ pub struct Part {
 #[derive(Clone, Copy)]
 pub struct Figures {
     // the least label above the newest standing lot's, 0 where no lot stands
+    // Kept: no Option, since `rules::refusing::may_follow` answers for every number (`same_label`)
     pub above: u64,
     pub accepted: u64,
     pub continuous: Continuous,

@@ -1,14 +1,14 @@
 -- Which number is which call: paper 01, "Hexadecimal frames". "call (1 Open to 8 Read, in the order above), stream, five 32-bit
 -- arguments, big end first, unused ones 0"; and paper 02, card 1: "call frames gain two arguments at the end, number then second", and the
 -- call that hands back the newest records is 9. The text is not looked at here. Assumes nothing.
-use Rattle.std.specs.Prelude.{ℕ, zero, suc, Bool, true, false, cond, ◌&&◌, ◌||◌, List, [], ◌∷◌, eqb, leb, get_or}
+use Rattle.std.specs.Prelude.{ℕ, zero, suc, Bool, true, false, cond, ◌&&◌, ◌||◌, List, [], ◌∷◌, eqb, leb, get_or, Option, Some, None}
 use Rattle.model.specs.declared.Recording.{Recording}
 use Rattle.model.specs.declared.Entry.TheVariants.{Lot, Run, Block, Stop}
+use Rattle.model.specs.declared.Call.{Call}
 use Rattle.model.specs.declared.Call.TheVariants.{Open, Enter, Back, Ask, Read, Newest}
 use Rattle.model.specs.Stations.{plan_of}
 use Rattle.model.specs.Store.{Request}
 use Rattle.numbering.specs.declared.Frame.{Frame}
-use Rattle.numbering.specs.declared.Frame.TheVariants.{Made, Bad}
 
 abbrev pub frame_arguments : ℕ
 frame_arguments = 7
@@ -44,23 +44,27 @@ unfoldable pub unused_zero : ℕ → List ℕ → ℕ → Bool
 unused_zero number s zero = true
 unused_zero number s (suc k) = unused_zero number s k && (uses number (suc k) || eqb (slot (suc k) s) 0)
 
+-- a call made on a stream
+abbrev pub made : ℕ → Call → Option Frame
+made stream c = Some (record { stream = stream; call = c })
+
 -- the calls by number, with their arguments in the order of "Calls"
-unfoldable pub numbered : ℕ → ℕ → List ℕ → Frame
+unfoldable pub numbered : ℕ → ℕ → List ℕ → Option Frame
 numbered number stream s =
     cond (unused_zero number s frame_arguments)
-    (cond (eqb number 1) (Made stream (Open (plan_of (slot 1 s) (slot 2 s) (slot 3 s) (slot 4 s) (slot 5 s))))
-    (cond (eqb number 2) (Made stream (Enter (Lot (slot 1 s) (slot 2 s) (slot 3 s) (slot 4 s) (slot 5 s) (recording_of s))))
-    (cond (eqb number 3) (Made stream (Enter (Run (slot 1 s) (slot 2 s) (recording_of s))))
-    (cond (eqb number 4) (Made stream (Enter (Block (slot 1 s) (slot 2 s) (recording_of s))))
-    (cond (eqb number 5) (Made stream (Enter (Stop (slot 1 s) (slot 2 s))))
-    (cond (eqb number 6) (Made stream Back)
-    (cond (eqb number 7) (Made stream (Ask (slot 1 s)))
-    (cond (eqb number 8) (Made stream Read)
-    (cond (eqb number 9) (Made stream (Newest (slot 1 s)))
-    Bad)))))))))
-    Bad
+    (cond (eqb number 1) (made stream (Open (plan_of (slot 1 s) (slot 2 s) (slot 3 s) (slot 4 s) (slot 5 s))))
+    (cond (eqb number 2) (made stream (Enter (Lot (slot 1 s) (slot 2 s) (slot 3 s) (slot 4 s) (slot 5 s) (recording_of s))))
+    (cond (eqb number 3) (made stream (Enter (Run (slot 1 s) (slot 2 s) (recording_of s))))
+    (cond (eqb number 4) (made stream (Enter (Block (slot 1 s) (slot 2 s) (recording_of s))))
+    (cond (eqb number 5) (made stream (Enter (Stop (slot 1 s) (slot 2 s))))
+    (cond (eqb number 6) (made stream Back)
+    (cond (eqb number 7) (made stream (Ask (slot 1 s)))
+    (cond (eqb number 8) (made stream Read)
+    (cond (eqb number 9) (made stream (Newest (slot 1 s)))
+    None)))))))))
+    None
 
 -- the request of a frame, if it is one
-unfoldable pub request_of : Frame → List Request
-request_of (Made stream c) = record { stream = stream; made = c } ∷ []
-request_of Bad = []
+unfoldable pub request_of : Option Frame → List Request
+request_of (Some f) = record { stream = f.stream; made = f.call } ∷ []
+request_of None = []

@@ -1,10 +1,11 @@
 -- Tests taken apart. Assumes nothing.
 use Prim.Native.Nat.{ℕ, ◌≤◌}
-use mathlib.Core.Path.{◌≡◌, refl, subst}
-use mathlib.Core.Bool.{Bool, true, false, cond, not, ◌&&◌}
+use mathlib.Core.Path.{◌≡◌}
+use mathlib.Core.Bool.{Bool, true, false, cond, ◌&&◌}
 use lib.Dec.{T, leb}
 use borrow.Author.Tests.{leb-true}
 use Rattle.plans.specs.Limits.{within}
+pub use Rattle.std.proofs.lemmas.Bool.{and_parts as both_true}
 
 -- what holds on either side of a test holds of what it picks
 pub either : {A : Type 0} (P : A → Type 0) (b : Bool) {x y : A} → P x → P y → P (cond b x y)
@@ -15,10 +16,6 @@ either P false p q = q
 pub both_of : (a b : Bool) → T (a && b) → T a × T b
 both_of true b t = (tt, t)
 both_of false b t = absurd t
-
-pub both_true : (a b : Bool) → a && b ≡ true → (a ≡ true) × (b ≡ true)
-both_true true b e = (refl, e)
-both_true false b e = let never : ◌≡◌ {A = Bool} false true = e in (never, absurd (subst (λ (x : Bool). T (not x)) never tt))
 
 pub within_of : (low high n : ℕ) → within low high n ≡ true → (low ≤ n) × (n ≤ high)
 unfolding within

@@ -4,4 +4,4 @@ pub mod RoundedUp
 pub mod Rows
 pub mod Below
 pub mod LevelBounds
-pub mod Judging
+pub mod Windows

@@ -2,6 +2,8 @@
 -- Assumes nothing.
 use Rattle.std.specs.Prelude.{ℕ, ◌-◌, min, cond, List, [], ◌∷◌, leb, eqb, get_or}
 use Rattle.plans.specs.Severities.{reduced, tightened}
+use Rattle.plans.specs.declared.tables.CodeLetter.{CodeLetter}
+use Rattle.plans.specs.declared.tables.CodeLetter.TheVariants as letter
 
 -- a code letter is its row of Table 2, counted from 0
 abbrev pub A : ℕ
@@ -18,6 +20,14 @@ D = 3
 
 abbrev pub E : ℕ
 E = 4
+
+-- the row of a letter, as the code has it
+abbrev pub row_of : CodeLetter → ℕ
+row_of letter.A = A
+row_of letter.B = B
+row_of letter.C = C
+row_of letter.D = D
+row_of letter.E = E
 
 -- a row of Table 1: the largest lot size in it, and its letters, VL-7 to VL-1
 pub record Row : Type 0 where

@@ -5,6 +5,7 @@ ghost use Rattle.plans.specs.Limits.{largest_clearance, largest_interval};
 
 use crate::stops;
 
+// Kept: a phase is a number, since `Continuous::stop` answers for every number (`after_stop`).
 pub const SCREENING: u8 = 0;
 
 pub const SAMPLING: u8 = 1;
@@ -30,6 +31,7 @@ pub struct Block {
 
 impl Continuous {
     // In screening, with count right detections in an unbroken row.
+    #[tactic(auto, unfolding(crate::specs::Continuous::screening))]
     pub fn screen(count: u32) -> Self
         ensures { result ≡ screening count }
     {
@@ -41,6 +43,7 @@ impl Continuous {
     }
 
     // In sampling, with tail detections passed since the last one heard.
+    #[tactic(auto, unfolding(crate::specs::Continuous::sampling))]
     fn sample(tail: u16) -> Self
         ensures { result ≡ sampling tail }
     {
@@ -62,27 +65,31 @@ impl Continuous {
         }
         let count = self.count + right;
         if count == clearance {
-            return Self::sample(0);
+            Self::sample(0)
+        } else {
+            Self::screen(count)
         }
-        Self::screen(count)
     }
 
     // A block in sampling, of which one detection is heard, counted from 1.
+    // Kept: interval and heard are no pair, since `rules::answering::block` would have to say that the pair's interval is the plan's.
+    #[tactic(auto, unfolding(crate::specs::Continuous::after_block))]
     pub fn block(self, interval: u32, heard: u32, wrong: bool) -> Block
         requires { (1 ≤ heard) × (heard ≤ interval) × (interval ≤ largest_interval) }
         ensures { result ≡ after_block interval heard wrong self }
     {
         if wrong {
-            return Block {
+            Block {
                 state: Self::screen(0),
                 accepted: heard - 1,
                 hear_back: self.tail as u32 + heard - 1,
-            };
-        }
-        Block {
-            state: Self::sample((interval - heard) as u16),
-            accepted: interval,
-            hear_back: 0,
+            }
+        } else {
+            Block {
+                state: Self::sample((interval - heard) as u16),
+                accepted: interval,
+                hear_back: 0,
+            }
         }
     }
 
@@ -91,14 +98,10 @@ impl Continuous {
     pub fn stop(self, why: u32, days: u32) -> Self
         ensures { result ≡ after_stop why days self }
     {
-        if why == stops::SET_UP_CHANGED {
-            return Self::screen(0);
+        if why == stops::SET_UP_CHANGED || self.phase == SAMPLING && stops::SHORT_STOP < days {
+            Self::screen(0)
+        } else {
+            self
         }
-        if self.phase == SAMPLING {
-            if stops::SHORT_STOP < days {
-                return Self::screen(0);
-            }
-        }
-        self
     }
 }

@@ -15,11 +15,13 @@ ghost use Rattle.plans.specs.Limits.{largest_credit, largest_lot, largest_aoql};
 use crate::{LotSize, SampleSize, verdict};
 
 // The credit K: detections accepted since a lot was last not accepted.
+// Kept: its limit stands in clauses and not in the type, since `Credit::verdict` answers for every credit (`credit_verdict`).
 #[derive(Clone, Copy)]
 pub struct Credit(pub u32);
 
 impl Credit {
     // The sample that a lot asks for under a ceiling on the usable credit, where the AOQL is limit millionths: clause 10 a), note 1.
+    #[tactic(auto, using(crate::proofs::RoundedUp::credit_sample_at_least, crate::proofs::RoundedUp::credit_sample_at_most), unfolding(crate::specs::Credit::credit_sample, crate::specs::Credit::sample_dividend, crate::specs::Credit::sample_divisor))]
     pub fn sample(self, ceiling: u32, size: LotSize, limit: u32) -> SampleSize
         requires { (self.0 ≤ largest_credit) × (1 ≤ size.0) × (size.0 ≤ largest_lot) × (limit ≤ largest_aoql) }
         ensures result_value { result.0 ≡ credit_sample self.0 ceiling size.0 limit }
@@ -33,17 +35,17 @@ impl Credit {
         SampleSize(rounded_up(dividend, divisor) as u32)
     }
 
+    // Kept: 0 for no ceiling, since `Credit::sample` answers for every number (`usable_credit`).
     // The credit that a sample size may use, under a ceiling or, where that is 0, under none: clause 10, note 1.
+    #[tactic(auto, unfolding(crate::specs::Credit::usable_credit))]
     fn usable(self, ceiling: u32) -> Credit
         ensures { result.0 ≡ usable_credit self.0 ceiling }
     {
         if ceiling == 0 {
-            return self;
+            self
+        } else {
+            Credit(self.0.min(ceiling))
         }
-        if self.0 <= ceiling {
-            return self;
-        }
-        Credit(ceiling)
     }
 
     // The verdict on a lot with so many wrong in its sample: clause 10 b) and c).
@@ -53,9 +55,7 @@ impl Credit {
     {
         if wrong == 0 {
             verdict::ACCEPTED
-        } else if self.0 == 0 {
-            verdict::HEARD
-        } else if hear_all {
+        } else if self.0 == 0 || hear_all {
             verdict::HEARD
         } else {
             verdict::WITHHELD
@@ -63,6 +63,7 @@ impl Credit {
     }
 
     // The credit after a lot with so many wrong in its sample: clause 10 b) and c).
+    #[tactic(auto, unfolding(crate::specs::Credit::credit_after))]
     pub fn after(self, size: LotSize, wrong: u32) -> Credit
         requires { (self.0 ≤ largest_credit) × (size.0 ≤ largest_lot) }
         ensures { result.0 ≡ credit_after self.0 size.0 wrong }

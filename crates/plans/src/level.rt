@@ -1,11 +1,11 @@
 // The moves between levels: paper 01, "Level lots".
-ghost use Rattle.std.specs.Prelude.{◌≡◌, Bool, true, false, ◌<◌};
-ghost use Rattle.plans.specs.Severities.{normal, tightened};
+ghost use Rattle.std.specs.Prelude.{◌≡◌, ◌<◌};
 ghost use Rattle.plans.specs.LevelBounds.{most_counted};
-ghost use Rattle.plans.specs.Levels.{level_start, shifted, withheld_in, arrived, judged_lot, met_stop};
+ghost use Rattle.plans.specs.Levels.{level_start, shifted, withheld_in, arrived, counted, level_after, judged_lot, met_stop};
 
 use crate::stops;
 
+// Kept: a level is a number, since `LevelState::judge` and `meet_stop` answer for every number (`judged_lot`, `met_stop`).
 pub const REDUCED: u32 = 0;
 
 pub const NORMAL: u32 = 1;
@@ -27,6 +27,7 @@ pub struct LevelState {
 }
 
 impl LevelState {
+    #[tactic(auto, unfolding(crate::specs::Levels::level_start))]
     pub fn start() -> Self
         ensures { result ≡ level_start }
     {
@@ -39,27 +40,22 @@ impl LevelState {
     }
 
     // Judges a lot: counts it, and moves the level, once.
+    #[tactic(auto, unfolding(crate::specs::Levels::judged_lot, crate::specs::Levels::moved))]
     pub fn judge(mut self, permits_reduced: bool, withheld: bool) -> Self
         requires { (self.row < most_counted) × (self.judged < most_counted) }
         ensures { result ≡ judged_lot permits_reduced withheld self }
     {
-        if withheld {
-            self = self.withhold();
-            return self;
+        self = self.count(withheld);
+        let level = self.level_after(permits_reduced);
+        if level == self.level {
+            self
+        } else {
+            self.arrive(level)
         }
-        if self.level == NORMAL {
-            self = self.accept_on_normal(permits_reduced);
-            return self;
-        }
-        if self.level == TIGHTENED {
-            self = self.accept_on_tightened();
-            return self;
-        }
-        self = self.accept_elsewhere();
-        self
     }
 
     // Arrives at a level.
+    #[tactic(auto, unfolding(crate::specs::Levels::arrived))]
     pub fn arrive(mut self, level: u32) -> Self
         ensures { result ≡ arrived level self }
     {
@@ -74,97 +70,47 @@ impl LevelState {
     pub fn meet_stop(mut self, why: u32, days: u32) -> Self
         ensures { result ≡ met_stop why days self }
     {
-        if self.level != REDUCED {
-            return self;
-        }
-        if why == stops::SET_UP_CHANGED {
-            self = self.arrive(NORMAL);
-            return self;
-        }
-        if stops::SHORT_STOP < days {
+        if self.level == REDUCED && (why == stops::SET_UP_CHANGED || stops::SHORT_STOP < days) {
             self = self.arrive(NORMAL);
         }
         self
     }
 
-    // An accepted lot on normal: two withheld ones in the window lead to tightened, ten accepted in a row to reduced.
-    fn accept_on_normal(mut self, permits_reduced: bool) -> Self
-        requires { (self.level ≡ normal) × (self.row < most_counted) }
-        ensures { result ≡ judged_lot permits_reduced false self }
+    // Counts a lot, judged at the state's level.
+    #[tactic(auto, unfolding(crate::specs::Levels::counted, crate::specs::Levels::lengthened, crate::specs::Levels::judged_on_tightened))]
+    fn count(mut self, withheld: bool) -> Self
+        requires { (self.row < most_counted) × (self.judged < most_counted) }
+        ensures { (result ≡ counted withheld self) × (result.window < 32) }
     {
-        self.window = shift_in(self.window, false);
-        if 2 <= withheld_in(self.window) {
-            return self.arrive(TIGHTENED);
-        }
-        if 9 <= self.row {
-            if permits_reduced {
-                return self.arrive(REDUCED);
-            }
-        }
-        self.row += 1;
-        self.judged = 0;
+        self.row = if withheld { 0 } else { self.row + 1 };
+        self.judged = if self.level == TIGHTENED {
+            self.judged + 1
+        } else {
+            0
+        };
+        self.window = shift_in(self.window, withheld);
         self
     }
 
-    // An accepted lot on tightened: the fifth in a row leads to normal, else the tenth lot judged there ends the stream.
-    #[tactic(auto, using(crate::proofs::Judging::accepts), unfolding(crate::specs::Levels::arrived))]
-    fn accept_on_tightened(mut self) -> Self
-        requires { (self.level ≡ tightened) × (self.row < most_counted) × (self.judged < most_counted) }
-        ensures { (permits : Bool) → result ≡ judged_lot permits false self }
+    // The level after a lot, which has been counted. (None is judged where the stream is discontinued.)
+    #[tactic(auto, unfolding(crate::specs::Levels::level_after, crate::specs::Levels::after_normal, crate::specs::Levels::after_tightened, crate::specs::Levels::after_reduced))]
+    fn level_after(self, permits_reduced: bool) -> u32
+        requires { self.window < 32 }
+        ensures { result ≡ level_after permits_reduced self }
     {
-        self.window = shift_in(self.window, false);
-        if 4 <= self.row {
-            return self.arrive(NORMAL);
+        match self.level {
+            NORMAL if 2 <= withheld_in(self.window) => TIGHTENED,
+            NORMAL if permits_reduced && 10 <= self.row => REDUCED,
+            TIGHTENED if 5 <= self.row => NORMAL,
+            TIGHTENED if 10 <= self.judged => DISCONTINUED,
+            REDUCED if self.window % 2 == 1 => NORMAL,
+            level => level,
         }
-        if 9 <= self.judged {
-            return self.arrive(DISCONTINUED);
-        }
-        self.row += 1;
-        self.judged += 1;
-        self
-    }
-
-    // An accepted lot on reduced, which moves nothing. (None is judged where the stream is discontinued.)
-    fn accept_elsewhere(mut self) -> Self
-        requires { (self.level ≡ normal → ⊥) × (self.level ≡ tightened → ⊥) × (self.row < most_counted) }
-        ensures { (permits : Bool) → result ≡ judged_lot permits false self }
-    {
-        self.window = shift_in(self.window, false);
-        self.row += 1;
-        self.judged = 0;
-        self
-    }
-
-    // A withheld lot: the second in the window ends normal, the tenth lot judged there tightened, any of them reduced.
-    #[tactic(auto, using(crate::proofs::Judging::withholds), unfolding(crate::specs::Levels::arrived))]
-    fn withhold(mut self) -> Self
-        requires { self.judged < most_counted }
-        ensures { (permits : Bool) → result ≡ judged_lot permits true self }
-    {
-        self.row = 0;
-        self.window = shift_in(self.window, true);
-        if self.level == TIGHTENED {
-            if 9 <= self.judged {
-                return self.arrive(DISCONTINUED);
-            }
-            self.judged += 1;
-            return self;
-        }
-        self.judged = 0;
-        if self.level == NORMAL {
-            if self.window != 1 {
-                return self.arrive(TIGHTENED);
-            }
-            return self;
-        }
-        if self.level == REDUCED {
-            return self.arrive(NORMAL);
-        }
-        self
     }
 }
 
 // The window with one lot more.
+#[tactic(auto, unfolding(crate::specs::Levels::shifted))]
 fn shift_in(window: u32, withheld: bool) -> u32
     ensures { (result ≡ shifted withheld window) × (result < 32) }
 {
@@ -176,6 +122,7 @@ fn shift_in(window: u32, withheld: bool) -> u32
 }
 
 // How many lots of the window were withheld.
+#[tactic(auto, using(crate::proofs::Windows::ones_in_window))]
 fn withheld_in(window: u32) -> u32
     requires { window < 32 }
     ensures { result ≡ withheld_in window }

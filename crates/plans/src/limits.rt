@@ -29,11 +29,9 @@ pub const LONGEST_RUN: u32 = 10000;
 pub const LONGEST_STOP: u32 = 255;
 
 // Whether n is from low to high.
+#[tactic(auto, unfolding(crate::specs::Limits::within))]
 pub fn within(low: u32, high: u32, n: u32) -> bool
     ensures { result ≡ is_within low high n }
 {
-    if n < low {
-        return false;
-    }
-    n <= high
+    low <= n && n <= high
 }

@@ -4,6 +4,8 @@ ghost use Rattle.plans.specs.Verdicts.{level_verdict, accepted_of};
 
 use crate::LotSize;
 
+// Kept: a verdict is a number, since `accepted_of` and `rules::refusing::do_counts_agree`, which take each, answer for every number.
+
 // No wrong detection in the sample.
 pub const ACCEPTED: u32 = 1;
 // Not accepted, and every detection of it heard.
@@ -12,6 +14,7 @@ pub const HEARD: u32 = 2;
 pub const WITHHELD: u32 = 3;
 
 // The verdict on a level lot with so many wrong in its sample.
+#[tactic(auto, unfolding(crate::specs::Verdicts::level_verdict))]
 pub fn of_level_lot(wrong: u32) -> u32
     ensures { result ≡ level_verdict wrong }
 {
@@ -19,15 +22,14 @@ pub fn of_level_lot(wrong: u32) -> u32
 }
 
 // How many of a lot's detections are accepted.
+#[tactic(auto, unfolding(crate::specs::Verdicts::accepted_of))]
 pub fn accepted_of(verdict: u32, size: LotSize, wrong_in_all: u32) -> u32
     requires { wrong_in_all ≤ size.0 }
     ensures { result ≡ accepted_of verdict size.0 wrong_in_all }
 {
-    if verdict == ACCEPTED {
-        size.0
-    } else if verdict == HEARD {
-        size.0 - wrong_in_all
-    } else {
-        0
+    match verdict {
+        ACCEPTED => size.0,
+        HEARD => size.0 - wrong_in_all,
+        _ => 0,
     }
 }

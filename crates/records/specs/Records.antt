@@ -1,6 +1,6 @@
 -- Where a record stands in an area, which plans and level figures fit their bytes, and what a test decides. The clauses of `src/` cite these.
 -- Assumes nothing.
-use Rattle.std.specs.Prelude.{ℕ, ◌*◌, ◌≤◌, ◌<◌, ◌≡◌, Bool, true, List, get_or}
+use Rattle.std.specs.Prelude.{ℕ, ◌*◌, ◌<◌, ◌≡◌, Bool, true, List}
 use Rattle.little.specs.Little.{part}
 use Rattle.plans.specs.declared.level.LevelState.{LevelState}
 use Rattle.model.specs.declared.Plan.{Plan}
@@ -28,7 +28,3 @@ pub record LevelFits (s : LevelState) : Type 0 where
 pub record Decides (b : Bool) (P : Type 0) : Type 0 where
   pub shows : b ≡ true → P
   pub shown : P → b ≡ true
-
--- the bytes from one index on, up to another, are zero
-abbrev pub ZeroBetween : List ℕ → ℕ → ℕ → Type 0
-ZeroBetween area from to = (k : ℕ) → from ≤ k → k < to → get_or area k 0 ≡ 0

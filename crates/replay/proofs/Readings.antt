@@ -4,6 +4,7 @@ use mathlib.Core.Path.{◌≡◌, refl, sym, ap, ◌∙◌}
 use mathlib.Core.Bool.{Bool, true, false, not}
 use borrow.Author.Tests.{not-true, not-false}
 use mathlib.Core.List.{List}
+use Rattle.std.specs.Prelude.{Ok, Err}
 use native.Mathlib.Omega.{arith}
 use lib.ListN.{length, get_or, drop}
 use Rattle.little.specs.Little.{part, AreBytes}
@@ -18,12 +19,11 @@ use Rattle.model.proofs.AreaReading.{reading_of_area}
 use Rattle.model.proofs.Booleans.{holds_of, of_holds, never_both}
 use Rattle.records.specs.Records.{Decides}
 use Rattle.records.proofs.Laws.{decided_not, refuted}
-use Rattle.replaying.specs.declared.Entered.{Entered}
 use Rattle.replaying.specs.Replaying.{records_in, figures_to, stand_to, Ready, replayed}
-use Rattle.replay.specs.declared.Standing.{Standing}
-use Rattle.replay.specs.Standing.{nothing_stands, standing_of, Headed, HeaderFits}
+use Rattle.rules.specs.declared.refusing.Refusal.TheVariants.{Unsound, Unopened}
+use Rattle.replay.specs.Standing.{standing_of, Headed, HeaderFits}
 use Rattle.model.specs.Figuring.{started}
-use Rattle.replaying.proofs.Turns.{stand_none, figures_none, all_stand, figures_after}
+use Rattle.replaying.proofs.Turns.{stand_none, figures_none, all_stand, one_fails, figures_after}
 use Rattle.replaying.proofs.Parts.{length_entries, stand_fails, parts_sound, SoundParts, sound_parts, zero_parts}
 
 -- the entries of fewer records are the older ones
@@ -52,35 +52,35 @@ fits_no_failed p area count fails = refuted (λ fits. never_both (stand_to p are
 module _ (newest : ℕ) where
   -- where the first byte is 0, the area is sound if all bytes are
   module _ (area : List ℕ) (clear : Bool) (whole : length area ≡ area_length) (test : Decides clear (drop 0 area ≡ zeros (length area - 0))) where
-    pub says_unopened : clear ≡ true → nothing_stands 6 ≡ standing_of newest (reading area)
+    pub says_unopened : clear ≡ true → Err Unopened ≡ standing_of newest (reading area)
     unfolding standing_of area_of admissible_station
     says_unopened is =
         let all : area ≡ zeros area_length = rw whole at (test.shows is) in
         rw (ap reading all ∙ reading_of_area unopened tt)
 
-    pub says_stray : get_or area 0 0 ≡ 0 → clear ≡ false → nothing_stands 3 ≡ standing_of newest (reading area)
+    pub says_stray : get_or area 0 0 ≡ 0 → clear ≡ false → Err Unsound ≡ standing_of newest (reading area)
     unfolding standing_of
     says_stray first is = go (reading area) refl
       where
-        go : (r : Reading) → reading area ≡ r → nothing_stands 3 ≡ standing_of newest (reading area)
+        go : (r : Reading) → reading area ≡ r → Err Unsound ≡ standing_of newest (reading area)
         go unsound e = rw e
         go (holds unopened) e = absurd (decided_not test is (rw whole (zero_parts area e)))
         go (holds (opened p es)) e = absurd ((sound_parts p es area e).kind first)
 
   -- where it is not, and no opened station has left the area, the area is unsound
   module _ (area : List ℕ) (first : get_or area 0 0 ≡ 0 → ⊥) where
-    says_unsound : ((p : Plan) (es : List Entry) → SoundParts p es area → ⊥) → nothing_stands 3 ≡ standing_of newest (reading area)
+    says_unsound : ((p : Plan) (es : List Entry) → SoundParts p es area → ⊥) → Err Unsound ≡ standing_of newest (reading area)
     unfolding standing_of
     says_unsound never = go (reading area) refl
       where
-        go : (r : Reading) → reading area ≡ r → nothing_stands 3 ≡ standing_of newest (reading area)
+        go : (r : Reading) → reading area ≡ r → Err Unsound ≡ standing_of newest (reading area)
         go unsound e = rw e
         go (holds unopened) e = absurd (first (ap (λ (a : List ℕ). get_or a 0 0) (zero_parts area e)))
         go (holds (opened p es)) e = absurd (never p es (sound_parts p es area e))
 
     -- the plan is none that a stream is opened with
     pub says_invalid : (plan : Plan) (valid : Bool) → plan ≡ plan_in area → valid ≡ valid_plan plan → not valid ≡ true
-        → nothing_stands 3 ≡ standing_of newest (reading area)
+        → Err Unsound ≡ standing_of newest (reading area)
     says_invalid plan valid planned same fails =
         says_unsound
         (λ p es parts.
@@ -88,7 +88,7 @@ module _ (newest : ℕ) where
         (ap valid_plan (sym (planned ∙ parts.plan)) ∙ sym same ∙ not-true valid fails))
 
     -- there are more records than an area holds
-    pub says_crowded : (count : ℕ) → count ≡ count_in area → most_records < count → nothing_stands 3 ≡ standing_of newest (reading area)
+    pub says_crowded : (count : ℕ) → count ≡ count_in area → most_records < count → Err Unsound ≡ standing_of newest (reading area)
     says_crowded count counted more = says_unsound (λ p es parts. omega (arith, counted, parts.count, parts.room))
 
   module _ (area : List ℕ) (plan : Plan) (count : ℕ) (header : Headed area plan count) where
@@ -99,17 +99,17 @@ module _ (newest : ℕ) where
     same_count p es parts = sym (header.counted ∙ parts.count)
 
     -- one of the first records cannot stand
-    pub says_failed : (r : Entered) (to : ℕ) → to ≡ count - newest → r ≡ replayed plan area to → not r.sound ≡ true
-        → nothing_stands 3 ≡ standing_of newest (reading area)
-    says_failed r to fewest gives fails =
-        let fewer = stand_fails plan area to count (omega arith) (sym (all_stand plan area to r gives) ∙ not-true r.sound fails) in
+    pub says_failed : (f : Figures) (to : ℕ) → to ≡ count - newest → Err f ≡ replayed plan area to
+        → Err Unsound ≡ standing_of newest (reading area)
+    says_failed f to fewest gives =
+        let fewer = stand_fails plan area to count (omega arith) (one_fails plan area to f gives) in
         says_unsound area header.kind
         (λ p es parts.
         never_both (stand_to p area (length es)) parts.stand (rw (same_plan p es parts, same_count p es parts) fewer))
 
     -- the newest records cannot stand, or the header is another
     pub says_other : (fits : Bool) → Decides fits (HeaderFits plan area count) → not fits ≡ true
-        → nothing_stands 3 ≡ standing_of newest (reading area)
+        → Err Unsound ≡ standing_of newest (reading area)
     unfolding figures_to
     says_other fits test fails =
         says_unsound area header.kind
@@ -123,7 +123,7 @@ module _ (newest : ℕ) where
     -- something stands behind the last record
     pub says_more : (clear : Bool)
         → Decides clear (drop (header_length + record_length * count) area ≡ zeros (length area - (header_length + record_length * count)))
-        → not clear ≡ true → nothing_stands 3 ≡ standing_of newest (reading area)
+        → not clear ≡ true → Err Unsound ≡ standing_of newest (reading area)
     says_more clear test fails =
         says_unsound area header.kind
         (λ p es parts. decided_not test (not-true clear fails) (rw (same_count p es parts) at parts.rest))
@@ -131,7 +131,7 @@ module _ (newest : ℕ) where
     -- all of it is as calls leave it
     pub says_opened : (before : Figures) → AreBytes area → before ≡ figures_to plan area (count - newest) → HeaderFits plan area count
         → drop (header_length + record_length * count) area ≡ zeros (length area - (header_length + record_length * count))
-        → record { plan = plan; figures = before; count = count; refusal = 0 } ≡ standing_of newest (reading area)
+        → Ok (record { plan = plan; figures = before; count = count }) ≡ standing_of newest (reading area)
     unfolding standing_of figures_to
     says_opened before b older fits clear =
         let planned = header.planned in
@@ -147,10 +147,6 @@ module _ (newest : ℕ) where
           ← entries_older plan (records_in area) count newest,
         )
         (rw older)
-
--- what the code answers, for the search
-pub told : (r a x : Standing) → r ≡ a → a ≡ x → r ≡ x
-told r a x given same = given ∙ same
 
 pub headed : (area : List ℕ) (plan : Plan) (count : ℕ) (valid : Bool) → length area ≡ area_length → (get_or area 0 0 ≡ 0 → ⊥) → plan ≡ plan_in area
     → valid ≡ valid_plan plan → not valid ≡ false → count ≡ count_in area → count ≤ most_records → Headed area plan count
@@ -177,21 +173,19 @@ ready_first area plan count newest to f header begun fewest =
       brought = begun ∙ sym (figures_none _ _);
     }
 
-pub ready_rest : (area : List ℕ) (plan : Plan) (count newest to : ℕ) (r : Entered) → Headed area plan count → to ≡ count - newest
-    → r ≡ replayed plan area to → not r.sound ≡ false → Ready plan area r.figures to count
-ready_rest area plan count newest to r header fewest gives stands =
-    let sound = not-false r.sound stands in
+pub ready_rest : (area : List ℕ) (plan : Plan) (count newest to : ℕ) (f : Figures) → Headed area plan count → to ≡ count - newest
+    → Ok f ≡ replayed plan area to → Ready plan area f to count
+ready_rest area plan count newest to f header fewest gives =
     record {
       whole = header.whole;
       valid = header.valid;
       in_order = omega arith;
       room = header.room;
-      stood = sym (all_stand plan area to r gives) ∙ sound;
-      brought = figures_after plan area to r gives sound;
+      stood = all_stand plan area to f gives;
+      brought = figures_after plan area to f gives;
     }
 
 pub ruleset sayings = (
-  told,
   says_unopened,
   says_stray,
   says_invalid,

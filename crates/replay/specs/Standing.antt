@@ -1,28 +1,21 @@
 -- What an area says, as the code tells it. Assumes nothing.
-use Rattle.std.specs.Prelude.{ℕ, ◌≤◌, true, List, ◌≡◌, T, length, drop, get_or}
+use Rattle.std.specs.Prelude.{ℕ, ◌≤◌, true, List, ◌≡◌, T, length, drop, get_or, Result, Ok, Err}
 use Rattle.model.specs.declared.Plan.{Plan}
 use Rattle.model.specs.Sizes.{header_length, area_length, most_records}
-use Rattle.model.specs.Stations.{unopened, opened, plan_of, valid_plan}
-use Rattle.model.specs.Figuring.{started, figures_of}
+use Rattle.model.specs.Stations.{unopened, opened, valid_plan}
+use Rattle.model.specs.Figuring.{figures_of}
 use Rattle.little.specs.Little.{part}
 use Rattle.model.specs.Area.{header_of, plan_in, count_in, Reading, unsound, holds}
 use Rattle.replaying.specs.Replaying.{figures_to, stand_to}
+use Rattle.rules.specs.declared.refusing.Refusal.{Refusal}
+use Rattle.rules.specs.declared.refusing.Refusal.TheVariants.{Unsound, Unopened}
 use Rattle.replay.specs.declared.Standing.{Standing}
 
--- the plan of a stream that has none
-abbrev pub no_plan : Plan
-no_plan = plan_of 0 0 0 0 0
-
--- nothing but a refusal to tell of
-unfoldable pub nothing_stands : ℕ → Standing
-nothing_stands refusal = record { plan = no_plan; figures = started no_plan; count = 0; refusal = refusal }
-
--- what a reading says: the refusal of every call but Open, or the station, with the figures before so many of the newest entries
-unfoldable pub standing_of : ℕ → Reading → Standing
-standing_of newest unsound = nothing_stands 3
-standing_of newest (holds unopened) = nothing_stands 6
-standing_of newest (holds (opened p es)) =
-    record { plan = p; figures = figures_of p (drop newest es); count = length es; refusal = 0 }
+-- what a reading says: the station, with the figures before so many of the newest entries, or the refusal of every call but Open
+unfoldable pub standing_of : ℕ → Reading → Result Standing Refusal
+standing_of newest unsound = Err Unsound
+standing_of newest (holds unopened) = Err Unopened
+standing_of newest (holds (opened p es)) = Ok (record { plan = p; figures = figures_of p (drop newest es); count = length es })
 
 -- an area whose header has a plan that is valid and a count that fits
 pub record Headed (area : List ℕ) (plan : Plan) (count : ℕ) : Type 0 where

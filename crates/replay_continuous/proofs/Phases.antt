@@ -1,5 +1,5 @@
--- The figures that calls leave on a continuous stream are those of a place: in screening short of the clearance number, or in sampling, and all
--- else foreign. By induction over the entries. Assumes nothing.
+-- The figures that calls leave on a continuous stream are those of a place: in screening short of the clearance number, or in sampling,
+-- and all else foreign. By induction over the entries. Assumes nothing.
 use Prim.Native.Nat.{ℕ, ◌+◌, ◌-◌, ◌≤◌, ◌<◌}
 use mathlib.Core.Path.{◌≡◌, refl}
 use mathlib.Core.Bool.{Bool, true, false, cond, ◌&&◌, ◌||◌}
@@ -8,7 +8,6 @@ use native.Mathlib.Omega.{arith}
 use lib.Dec.{T, eqb}
 use lib.ListN.{length}
 use borrow.Author.Tests.{eq-eqb, ne_eqb, eqb-false}
-use Rattle.little.specs.Little.{AreBytes}
 use Rattle.plans.specs.declared.continuous.Continuous.{Continuous}
 use Rattle.plans.specs.Stops.{set_up_changed, long_stop}
 use Rattle.plans.specs.Continuous.{screening, sampling, is_sampling, after_run, after_block, after_stop}
@@ -22,15 +21,15 @@ use Rattle.model.specs.Figuring.{started, credit_step, level_step, continuous_st
 use Rattle.model.specs.Calls.{first_refusal, rule_refusals, admissible}
 use Rattle.model.proofs.Booleans.{never_both}
 use Rattle.model.proofs.Allowed.{allowed_lot, allowed_run, newest_of_lem, continuous_plan}
-use Rattle.replaying.specs.Replaying.{figures_to, Reached, Ready}
-use Rattle.replaying.proofs.Turns.{ready_admissible}
-use Rattle.replay_continuous.specs.Places.{left_of, state_of, figures_with, figures_in, place_from}
+use Rattle.replaying.specs.Replaying.{Left}
+use Rattle.replay_continuous.specs.declared.Place.{Place}
+use Rattle.replay_continuous.specs.Places.{left_of, state_of, figures_with, figures_in, place_of}
 
 -- figures that a place stands for
 pub record Placed (p : Plan) (f : Figures) : Type 0 where
   pub counts : f.continuous.count ≤ p.a
   pub within : left_of p.a f.continuous ≤ p.a
-  pub same : figures_in p.a (place_from p.a f) ≡ f
+  pub same : figures_in p.a (place_of p.a f.continuous f.accepted) ≡ f
 
 module _ (p : Plan) (n : ℕ) where
   in_screening : (c : ℕ) → c < p.a → Placed p (figures_with (screening c) n)
@@ -93,10 +92,14 @@ module _ (p : Plan) (valid : T (valid_plan p)) (kind : p.kind ≡ 3) where
       let newest = newest_of_lem p e es ok in
       stepped_placed e (figures_of p es) (length es) newest.allowed (entries_placed es newest.others)
 
-pub reached_placed : (p : Plan) (f : Figures) → Reached p f → p.kind ≡ 3 → Placed p f
-reached_placed p f reached kind = rw reached.after (entries_placed p reached.valid kind reached.entries reached.stood)
+pub left_placed : (p : Plan) (f : Figures) → Left p f → p.kind ≡ 3 → Placed p f
+left_placed p f left kind = rw left.after (entries_placed p left.valid kind left.entries left.stood)
 
--- and so are those that a replay starts with
-pub ready_placed : (p : Plan) (area : List ℕ) (i to : ℕ) (f : Figures) → Ready p area f i to → AreBytes area → p.kind ≡ 3 → Placed p f
-unfolding figures_to
-ready_placed p area i to f ready bytes kind = rw ready.brought (entries_placed p ready.valid kind _ (ready_admissible p area f i to ready bytes))
+-- and those of a place in its range are such
+pub here_placed : (p : Plan) (s : Place) → s.left ≤ p.a → Placed p (figures_in p.a s)
+unfolding figures_in state_of
+here_placed p s in_range = go (eqb s.left 0) refl
+  where
+    go : (b : Bool) → eqb s.left 0 ≡ b → Placed p (figures_with (cond b (sampling s.tail) (screening (p.a - s.left))) s.accepted)
+    go true e = in_sampling p s.accepted s.tail
+    go false e = let some = eqb-false s.left 0 e in in_screening p s.accepted (p.a - s.left) (omega arith)

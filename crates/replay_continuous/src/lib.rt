@@ -2,33 +2,25 @@
 // stream's entries may stand, and what they do is `plans`' own (`Continuous::run`, `block` and `stop`): the replay takes it for each
 // record, a call for the entry that it is about to write.
 //
-// It does not carry the state as the area has it. One number, left, is what is still to be screened until clearance, i - c, and 0 in sampling: so
-// it says the phase and which run fits.
-// What has a name that `replay_credit` has too is the same over a place in place of numbers, and is explained there.
-// Speed: what changes stays in three registers, and of `plans`' functions one subtraction is left; with the state itself a long stream takes
-// twice as long.
+// It does not carry the state as the area has it. One number, left, is what is still to be screened until clearance, i - c, and 0 in
+// sampling: so it says the phase and which run fits.
+// Speed: what changes stays in three registers, and of `plans`' functions one subtraction is left; with the state itself a long stream
+// takes twice as long.
 #![tactic(auto)]
 
 ghost use Rattle.std.specs.Prelude.{◌≡◌, ◌≤◌};
-ghost use Rattle.little.specs.Little.{part};
-ghost use Rattle.model.specs.Sizes.{record_length};
 ghost use Rattle.model.specs.declared.Entry.TheVariants.{Run, Block, Stop};
-ghost use Rattle.model.specs.Records.{no_recording, record_in};
-ghost use Rattle.replaying.specs.Replaying.{Ready, ReadAt, replayed, Reached, entered, tried};
-ghost use Rattle.replay_continuous.specs.declared.Step.TheVariants.{Stands};
+ghost use Rattle.model.specs.Records.{no_recording};
+ghost use Rattle.replaying.specs.Replaying.{Ready, replayed, Reached, tried};
 ghost use Rattle.replay_continuous.specs.Places.{
   left_of,
   state_of,
   figures_in,
   place_of,
-  place_from,
   OnContinuous,
+  Gives,
   fits_run,
   flag_of,
-  entered_as,
-  Within,
-  Steps,
-  Tells,
 };
 
 use model::{Figures, Plan, Record, sizes};
@@ -36,7 +28,7 @@ use plans::continuous::Continuous;
 use plans::credit::Credit;
 use plans::level::LevelState;
 use plans::{continuous, limits};
-use replaying::Entered;
+use replaying::{Numbers, Records};
 use rules::refusing;
 
 // What an entry of a continuous stream can change: what is left to be screened, the tail, and how many are accepted.
@@ -47,258 +39,201 @@ struct Place {
     accepted: u64,
 }
 
-#[derive(Clone, Copy)]
-enum Step {
-    Stands(Place),
-    Fails,
-}
-
-#[derive(Clone, Copy)]
-struct Outcome {
-    stands: bool,
-    place: Place,
-}
-
-// The figures after more of the records of a continuous stream, and whether each of these could stand: brought up to date entry after
-// entry.
-pub fn replay(area: &[u8], plan: Plan, figures: Figures, from: usize, to: usize) -> Entered
+// The figures after more of the records of a continuous stream, brought up to date entry after entry; or those before the first that could
+// not stand.
+// Speed: a function of its own, with the registers for itself; inlined beside the loops of the other plans, a call on a long stream takes
+// up to 1.25 times as long on level plans and 1.8 times on continuous ones.
+#[inline(never)]
+pub fn replay(
+    area: &[u8; sizes::AREA_LENGTH],
+    plan: Plan,
+    figures: Figures,
+    from: usize,
+    to: usize,
+) -> Result<Figures, Figures>
     requires { Ready plan area.now figures from to × (plan.kind ≡ 3) }
     ensures { result ≡ replayed plan area.now to }
 {
-    let mut place = place_from(plan.a, figures);
-    let mut i = from;
-    while i < to {
-        let next = brought(
-            area,
-            plan,
-            place,
-            sizes::HEADER_LENGTH + sizes::RECORD_LENGTH * i,
-        );
-        if !next.stands {
-            return Entered {
-                sound: false,
-                figures: figures_at(plan.a, place),
-            };
-        }
-        place = next.place;
-        i += 1;
-    }
-    Entered {
-        sound: true,
-        figures: figures_at(plan.a, place),
-    }
+    replaying::replay::<Place>(area, plan, figures, from, to)
 }
 
-// A run more on a continuous stream's figures, as a call enters it: whether it could stand, and the figures after it.
-pub fn enter_run(plan: Plan, figures: Figures, right: u32, wrong: u32) -> Entered
+// A run more on a continuous stream's figures, as a call enters it: the figures after it, none where it could not stand.
+// Kept: wrong as a number, 0 or 1, here and of a block: an argument of a public function may not become narrower.
+pub fn enter_run(plan: Plan, figures: Figures, right: u32, wrong: u32) -> Option<Figures>
     requires { Reached plan figures × (plan.kind ≡ 3) × (wrong ≤ 1) }
     ensures { result ≡ tried plan figures (Run right wrong no_recording) }
 {
-    entered_as(
-        plan.a,
-        figures,
-        step_run(plan, place_from(plan.a, figures), right, wrong == 1),
-    )
+    let before = replaying::before_call::<Place>(plan, figures)?;
+    let after = before.step_run(plan, right, wrong == 1)?;
+    Some(after.figures(plan))
 }
 
 // The same of a block.
-pub fn enter_block(plan: Plan, figures: Figures, heard: u32, wrong: u32) -> Entered
+pub fn enter_block(plan: Plan, figures: Figures, heard: u32, wrong: u32) -> Option<Figures>
     requires { Reached plan figures × (plan.kind ≡ 3) × (wrong ≤ 1) }
     ensures { result ≡ tried plan figures (Block heard wrong no_recording) }
 {
-    entered_as(
-        plan.a,
-        figures,
-        step_block(plan, place_from(plan.a, figures), heard, wrong == 1),
-    )
+    let before = replaying::before_call::<Place>(plan, figures)?;
+    let after = before.step_block(plan, heard, wrong == 1)?;
+    Some(after.figures(plan))
 }
 
 // The same of a stop.
-pub fn enter_stop(plan: Plan, figures: Figures, why: u32, days: u32) -> Entered
+pub fn enter_stop(plan: Plan, figures: Figures, why: u32, days: u32) -> Option<Figures>
     requires { Reached plan figures × (plan.kind ≡ 3) }
     ensures { result ≡ tried plan figures (Stop why days) }
 {
-    entered_as(
-        plan.a,
-        figures,
-        step_stop(plan, place_from(plan.a, figures), why, days),
-    )
+    replaying::enter_stop::<Place>(plan, figures, why, days)
 }
 
-fn entered_as(clearance: u32, figures: Figures, step: Step) -> Entered
-    requires { Within clearance step }
-    ensures { result ≡ entered_as clearance figures step }
-{
-    let Step::Stands(after) = step else {
-        return Entered {
-            sound: false,
-            figures,
-        };
-    };
-    Entered {
-        sound: true,
-        figures: figures_at(clearance, after),
-    }
-}
+impl Numbers for Place {
+    ghost kind = { 3 };
 
-fn brought(area: &[u8], plan: Plan, place: Place, at: usize) -> Outcome
-    requires { ReadAt area.now at (OnContinuous plan place) }
-    ensures { Tells plan place (record_in (part at record_length area.now)) result }
-{
-    let mut here = place;
-    let stands = bring(&mut here, area, plan, at);
-    Outcome {
-        stands,
-        place: here,
-    }
-}
+    ghost shown = { λ p s. figures_in p.a s };
 
-fn bring(place: &mut Place, area: &[u8], plan: Plan, at: usize) -> bool
-    requires { ReadAt area.now at (OnContinuous plan place.old) }
-    ensures { Tells plan place.old (record_in (part at record_length area.now)) (record { stands = result; place = place.new }) }
-{
-    let next = next(area, plan, *place, at);
-    *place = next.place;
-    next.stands
-}
+    ghost ranged = { λ p s. s.left ≤ p.a };
 
-fn next(area: &[u8], plan: Plan, place: Place, at: usize) -> Outcome
-    requires { ReadAt area.now at (OnContinuous plan place) }
-    ensures { Tells plan place (record_in (part at record_length area.now)) result }
-{
-    let Step::Stands(after) = take(plan, place, records::get_record_at(area, at)) else {
-        return Outcome {
-            stands: false,
-            place,
-        };
-    };
-    Outcome {
-        stands: true,
-        place: after,
+    fn of(plan: Plan, figures: Figures) -> Place {
+        Place::after(plan.a, figures.continuous, figures.accepted)
     }
-}
 
-// What a record does to the place, and whether it could stand: the step of the entry that it holds. Without a recording number that can only
-// be a stop, and with one only a run or block (paper 02, card 1).
-// Speed: the phase is looked at first, so that a block's head is not compared with a run's. Whether a wrong run or block fits is asked before its
-// head: so the compiler keeps this order, in which a right one costs one comparison. By the heads alone a long stream in sampling takes 1.25
-// times as long.
-fn take(plan: Plan, place: Place, read: Record) -> Step
-    requires { OnContinuous plan place }
-    ensures { Steps plan place result (entered plan (figures_in plan.a place) 0 read) }
-{
-    if read.recording.number == 0 {
-        return step_stop(plan, place, replaying::why_of(read), read.a);
-    }
-    if replaying::has_more(read) {
-        return Step::Fails;
-    }
-    let head = replaying::head_of(read);
-    if place.left == 0 {
-        if head == replaying::BLOCK {
-            return step_block(plan, place, read.a, false);
+    // Credit, level and label are foreign to a continuous stream.
+    #[tactic(auto, unfolding(crate::specs::Places::figures_in, model::specs::Figuring::no_level))]
+    fn figures(self, plan: Plan) -> Figures {
+        let continuous = self.state(plan.a);
+        Figures {
+            credit: Credit(0),
+            level: LevelState {
+                level: 0,
+                row: 0,
+                judged: 0,
+                window: 0,
+            },
+            continuous,
+            accepted: self.accepted,
+            above: 0,
         }
-        if let Step::Stands(after) = step_block(plan, place, read.a, true) {
-            if head == replaying::BLOCK_WRONG {
-                return Step::Stands(after);
+    }
+
+    // A continuous stream is never discontinued.
+    #[tactic(auto, unfolding(model::specs::Calls::is_discontinued, crate::specs::Places::figures_in, model::specs::Figuring::no_level))]
+    fn has_ended(self, _plan: Plan) -> bool {
+        false
+    }
+
+    #[tactic(auto, using(crate::proofs::Steps::stops))]
+    fn stop(self, plan: Plan, why: u32, days: u32) -> Option<Place> {
+        if !refusing::is_stop(why, days) {
+            return None;
+        }
+        let state = self.state(plan.a);
+        let after = state.stop(why, days);
+        Some(Place::after(plan.a, after, self.accepted))
+    }
+}
+
+impl Records for Place {
+    // With a recording number a record can only be a run's or block's (paper 02, card 1).
+    // Speed: the phase is looked at first, so that a block's head is not compared with a run's. Whether a wrong run or block fits is asked
+    // before its head: so the compiler keeps this order, in which a right one costs one comparison. By the heads alone a long stream in
+    // sampling takes 1.25 times as long.
+    #[tactic(auto, using(crate::proofs::Steps::takes))]
+    fn take(self, plan: Plan, read: Record) -> Option<Place> {
+        if read.recording.number == 0 {
+            return replaying::take_stop(self, plan, read);
+        }
+        if replaying::has_more(read) {
+            return None;
+        }
+        let head = replaying::head_of(read);
+        if self.left == 0 {
+            if head == replaying::BLOCK {
+                return self.step_block(plan, read.a, false);
+            }
+            if let Some(after) = self.step_block(plan, read.a, true) {
+                if head == replaying::BLOCK_WRONG {
+                    return Some(after);
+                }
+            }
+            return None;
+        }
+        if head == replaying::RUN {
+            return self.step_run(plan, read.a, false);
+        }
+        if let Some(after) = self.step_run(plan, read.a, true) {
+            if head == replaying::RUN_WRONG {
+                return Some(after);
             }
         }
-        return Step::Fails;
+        None
     }
-    if head == replaying::RUN {
-        return step_run(plan, place, read.a, false);
+}
+
+// Kept: `after` and `state` in place of From: both need the clearance number.
+impl Place {
+    // A run of right detections, then a wrong one if wrong.
+    #[tactic(auto, using(crate::proofs::Steps::runs))]
+    fn step_run(self, plan: Plan, right: u32, wrong: bool) -> Option<Place>
+        requires { OnContinuous plan self }
+        ensures { Gives plan self result (Run right (flag_of wrong) no_recording) }
+    {
+        if !fits_run(self.left, right, wrong) {
+            return None;
+        }
+        let state = self.state(plan.a);
+        let after = state.run(plan.a, right, wrong);
+        Some(Place::after(plan.a, after, self.accepted + right as u64))
     }
-    if let Step::Stands(after) = step_run(plan, place, read.a, true) {
-        if head == replaying::RUN_WRONG {
-            return Step::Stands(after);
+
+    // A block of which one detection was heard.
+    #[tactic(auto, using(crate::proofs::Steps::block_steps))]
+    fn step_block(self, plan: Plan, heard: u32, wrong: bool) -> Option<Place>
+        requires { OnContinuous plan self }
+        ensures { Gives plan self result (Block heard (flag_of wrong) no_recording) }
+    {
+        if self.left != 0 {
+            return None;
+        }
+        if !refusing::is_in_block(plan.b, heard) {
+            return None;
+        }
+        let state = self.state(plan.a);
+        let gives = state.block(plan.b, heard, wrong);
+        let accepted = self.accepted + gives.accepted as u64;
+        Some(Place::after(plan.a, gives.state, accepted))
+    }
+
+    // The place that a state leaves, with so many accepted.
+    fn after(clearance: u32, state: Continuous, accepted: u64) -> Place
+        requires { state.count ≤ clearance }
+        ensures { result ≡ place_of clearance state accepted }
+    {
+        Place {
+            left: left_of(clearance, state),
+            tail: state.tail,
+            accepted,
         }
     }
-    Step::Fails
-}
 
-// A run of right detections, then a wrong one if wrong.
-fn step_run(plan: Plan, place: Place, right: u32, wrong: bool) -> Step
-    requires { OnContinuous plan place }
-    ensures { Steps plan place result (tried plan (figures_in plan.a place) (Run right (flag_of wrong) no_recording)) }
-{
-    if !fits_run(place.left, right, wrong) {
-        return Step::Fails;
-    }
-    let state = state_of(plan.a, place.left, place.tail);
-    stand(
-        plan.a,
-        state.run(plan.a, right, wrong),
-        place.accepted + right as u64,
-    )
-}
-
-// What 14 and 15 leave of a run.
-fn fits_run(left: u32, right: u32, wrong: bool) -> bool
-    ensures { result ≡ fits_run left right wrong }
-{
-    if wrong {
-        return right < left;
-    }
-    limits::within(1, left, right)
-}
-
-// A block of which one detection was heard.
-fn step_block(plan: Plan, place: Place, heard: u32, wrong: bool) -> Step
-    requires { OnContinuous plan place }
-    ensures { Steps plan place result (tried plan (figures_in plan.a place) (Block heard (flag_of wrong) no_recording)) }
-{
-    if place.left != 0 {
-        return Step::Fails;
-    }
-    if !refusing::is_in_block(plan.b, heard) {
-        return Step::Fails;
-    }
-    let state = state_of(plan.a, place.left, place.tail);
-    let gives = state.block(plan.b, heard, wrong);
-    let after = gives.state;
-    stand(plan.a, after, place.accepted + gives.accepted as u64)
-}
-
-// A stop.
-fn step_stop(plan: Plan, place: Place, why: u32, days: u32) -> Step
-    requires { OnContinuous plan place }
-    ensures { Steps plan place result (tried plan (figures_in plan.a place) (Stop why days)) }
-{
-    if !refusing::is_stop(why, days) {
-        return Step::Fails;
-    }
-    let state = state_of(plan.a, place.left, place.tail);
-    stand(plan.a, state.stop(why, days), place.accepted)
-}
-
-// The step of an entry that stands, and leaves this state.
-fn stand(clearance: u32, state: Continuous, accepted: u64) -> Step
-    requires { state.count ≤ clearance }
-    ensures { result ≡ Stands (place_of clearance state accepted) }
-{
-    Step::Stands(place_of(clearance, state, accepted))
-}
-
-// The place that figures tell of.
-fn place_from(clearance: u32, figures: Figures) -> Place
-    requires { figures.continuous.count ≤ clearance }
-    ensures { result ≡ place_from clearance figures }
-{
-    place_of(clearance, figures.continuous, figures.accepted)
-}
-
-fn place_of(clearance: u32, state: Continuous, accepted: u64) -> Place
-    requires { state.count ≤ clearance }
-    ensures { result ≡ place_of clearance state accepted }
-{
-    Place {
-        left: left_of(clearance, state),
-        tail: state.tail,
-        accepted,
+    // The state at a place.
+    #[tactic(auto, unfolding(crate::specs::Places::state_of, plans::specs::Continuous::sampling))]
+    fn state(self, clearance: u32) -> Continuous
+        requires { self.left ≤ clearance }
+        ensures { result ≡ state_of clearance self.left self.tail }
+    {
+        if self.left == 0 {
+            return Continuous {
+                count: 0,
+                phase: continuous::SAMPLING,
+                tail: self.tail,
+            };
+        }
+        Continuous::screen(clearance - self.left)
     }
 }
 
 // What a state leaves to be screened.
+#[tactic(auto, unfolding(crate::specs::Places::left_of, plans::specs::Continuous::is_sampling))]
 fn left_of(clearance: u32, state: Continuous) -> u32
     requires { state.count ≤ clearance }
     ensures { result ≡ left_of clearance state }
@@ -309,37 +244,13 @@ fn left_of(clearance: u32, state: Continuous) -> u32
     clearance - state.count
 }
 
-// The state of which so many are left to be screened.
-fn state_of(clearance: u32, left: u32, tail: u16) -> Continuous
-    requires { left ≤ clearance }
-    ensures { result ≡ state_of clearance left tail }
+// What 14 and 15 leave of a run.
+#[tactic(auto, unfolding(crate::specs::Places::fits_run))]
+fn fits_run(left: u32, right: u32, wrong: bool) -> bool
+    ensures { result ≡ fits_run left right wrong }
 {
-    if left == 0 {
-        return Continuous {
-            count: 0,
-            phase: continuous::SAMPLING,
-            tail,
-        };
+    if wrong {
+        return right < left;
     }
-    Continuous::screen(clearance - left)
-}
-
-// The figures of a place. Credit, level and label are foreign to a continuous stream.
-fn figures_at(clearance: u32, place: Place) -> Figures
-    requires { place.left ≤ clearance }
-    ensures { result ≡ figures_in clearance place }
-{
-    let continuous = state_of(clearance, place.left, place.tail);
-    Figures {
-        credit: Credit(0),
-        level: LevelState {
-            level: 0,
-            row: 0,
-            judged: 0,
-            window: 0,
-        },
-        continuous,
-        accepted: place.accepted,
-        above: 0,
-    }
+    limits::within(1, left, right)
 }

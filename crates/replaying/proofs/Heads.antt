@@ -6,6 +6,7 @@ use native.Mathlib.Omega.{arith}
 use lib.Dec.{eqb}
 use borrow.Author.Rules.{rules}
 use borrow.Author.Tests.{eqb-true, eqb-false, eq-eqb, ne_eqb, le-leb, not-true, not-false}
+use Rattle.std.specs.Prelude.{Some, None}
 use Rattle.plans.specs.Limits.{within}
 use Rattle.model.specs.declared.Record.{Record}
 use Rattle.model.specs.Records.{lot_kind, stop_kind}
@@ -69,31 +70,31 @@ stop_form r e =
     }
 
 -- the why of the stop in a record, each answer from what was tested: has it more numbers than one, a recording, and which head
-pub why_more : (r : Record) (more : Bool) → more ≡ not (one_number r) → more ≡ true → 0 ≡ why_of r
+pub why_more : (r : Record) (more : Bool) → more ≡ not (one_number r) → more ≡ true → None ≡ why_of r
 unfolding why_of holds_stop
 why_more r more counted e = rw (not-true (one_number r) (sym counted ∙ e), and-false _)
 
-pub why_recorded : (r : Record) (has : Bool) → has ≡ not (unrecorded r) → has ≡ true → 0 ≡ why_of r
+pub why_recorded : (r : Record) (has : Bool) → has ≡ not (unrecorded r) → has ≡ true → None ≡ why_of r
 unfolding why_of holds_stop
 why_recorded r has looked e = rw (not-true (unrecorded r) (sym looked ∙ e), and-false _)
 
 module _ (r : Record) (more has : Bool) (counted : more ≡ not (one_number r)) (looked : has ≡ not (unrecorded r)) where
   module _ (one : more ≡ false) (none : has ≡ false) (head : ℕ) (said : head ≡ head_of r) where
-    pub why_headed : r.kind < 256 → r.flag < 256 → (w : ℕ) → 1 ≤ w → w ≤ 2 → head ≡ flagged stop_kind w → w ≡ why_of r
+    pub why_headed : r.kind < 256 → r.flag < 256 → (w : ℕ) → 1 ≤ w → w ≤ 2 → head ≡ flagged stop_kind w → Some w ≡ why_of r
     unfolding why_of
     why_headed kinds flags w least most e =
         let form = head_is r stop_kind w kinds flags (omega arith) (omega arith) (sym said ∙ e) in
         let alone : one_number r ≡ true = not-false _ (sym counted ∙ one) in
         let bare : unrecorded r ≡ true = not-false _ (sym looked ∙ none) in
         let stop : StopForm r = record { kind = form.0; first = omega arith; last = omega arith; spare = form.2; one = alone; bare = bare } in
-        rw (stop_held r stop) (sym form.1)
+        rw (stop_held r stop, form.1)
 
-    pub why_none : (head ≡ pause → ⊥) → (head ≡ change → ⊥) → 0 ≡ why_of r
+    pub why_none : (head ≡ pause → ⊥) → (head ≡ change → ⊥) → None ≡ why_of r
     unfolding why_of head_of
     why_none no-pause no_change = go (holds_stop r) refl
       where
-        go : (b : Bool) → holds_stop r ≡ b → 0 ≡ cond b r.flag 0
-        go true e = let stop = stop_form r e in omega arith
+        go : (b : Bool) → holds_stop r ≡ b → None ≡ cond b (Some r.flag) None
+        go true e = let stop = stop_form r e in absurd (omega arith)
         go false e = refl
 
 pub ruleset whys = (rules, why_more, why_recorded, why_headed, why_none)

@@ -6,3 +6,4 @@ pub mod Turns
 pub mod LotStreams
 pub mod Tried
 pub mod Reached
+pub mod Ended

@@ -18,11 +18,11 @@ use Rattle.model.specs.Figuring.{verdict_on, accepted_by, credit_step, level_ste
 use Rattle.model.specs.Records.{lot_kind}
 use Rattle.model.proofs.Booleans.{both_true, never_both, within_of}
 use Rattle.rules.specs.Refusing.{may_follow}
-use Rattle.replaying.specs.declared.Entered.{Entered}
-use Rattle.replaying.specs.Replaying.{head_of, faultless, why_of, entered, tried, asked_lot, unsound_at}
+use Rattle.std.specs.Prelude.{Option, Some, None}
+use Rattle.replaying.specs.Replaying.{head_of, faultless, why_of, entered, tried, asked_lot, Left, Tells}
 use Rattle.replaying.specs.LotStreams.{lot_figures}
-use Rattle.replaying.proofs.Reached.{Left, no_continuous}
-use Rattle.replaying.proofs.Tried.{lot_record_lem, stop_record, other_record}
+use Rattle.replaying.proofs.Reached.{no_continuous}
+use Rattle.replaying.proofs.Tried.{lot_record_lem, stop_record, no_stop_record, other_record}
 
 -- ---- the numbers
 
@@ -53,28 +53,36 @@ follower_size least above label N e = within_of least largest_lot N (both_true (
 -- ---- records
 
 -- a record by its head: what its entry gives, it gives. Each from facts in the code's own form: which head was read, and what was tested
-module _ (p : Plan) (f : Figures) (r : Record) (y : Entered) where
+module _ {C : Type 0} (shown : C → Figures) (ranged : C → Type 0) (p : Plan) (f : Figures) (r : Record) (x : Option C) where
   pub lot_entered : (r.recording.number ≡ 0 → ⊥) → (head : ℕ) → head ≡ head_of r → head ≡ lot_kind
-      → y ≡ tried p f (asked_lot p f r.a r.b r.c r.d) → y ≡ entered p f 0 r
-  lot_entered known head said lot gives = gives ∙ sym (lot_record_lem p f r known (sym said ∙ lot))
+      → Tells shown ranged x (tried p f (asked_lot p f r.a r.b r.c r.d)) → Tells shown ranged x (entered p f 0 r)
+  lot_entered known head said lot gives = rw (lot_record_lem p f r known (sym said ∙ lot)) gives
 
   pub good_entered : (r.recording.number ≡ 0 → ⊥) → (good : Bool) → good ≡ faultless r → good ≡ true
-      → y ≡ tried p f (asked_lot p f r.a r.b 0 0) → y ≡ entered p f 0 r
+      → Tells shown ranged x (tried p f (asked_lot p f r.a r.b 0 0)) → Tells shown ranged x (entered p f 0 r)
   unfolding faultless
   good_entered known good tested fits gives =
       let lot = both_true (eqb (head_of r) lot_kind) (eqb r.c 0 && eqb r.d 0) (sym tested ∙ fits) in
       let none = both_true (eqb r.c 0) (eqb r.d 0) lot.1 in
       lot_entered known (head_of r) refl (eqb-true (head_of r) lot_kind lot.0) (rw (eqb-true r.c 0 none.0, eqb-true r.d 0 none.1) gives)
 
-  pub stop_entered : r.recording.number ≡ 0 → (why : ℕ) → why ≡ why_of r → y ≡ tried p f (Stop why r.a) → y ≡ entered p f 0 r
-  stop_entered none why stop gives = gives ∙ rw stop (sym (stop_record p f r none))
+  pub stop_entered : r.recording.number ≡ 0 → (why : ℕ) → Some why ≡ why_of r → Tells shown ranged x (tried p f (Stop why r.a))
+      → Tells shown ranged x (entered p f 0 r)
+  stop_entered none why holds gives = rw (stop_record p f r none why holds) gives
 
+  -- one without a recording that is no stop's cannot stand
+  pub no_stop_entered : r.recording.number ≡ 0 → None ≡ why_of r → x ≡ None → Tells shown ranged x (entered p f 0 r)
+  no_stop_entered none holds fails = rw fails (record { same = sym (no_stop_record p f r none holds); in_range = tt })
+
+module _ {C : Type 0} (shown : C → Figures) (ranged : C → Type 0) (p : Plan) (f : Figures) (r : Record) where
   -- one with a recording that is no lot's cannot stand
-  pub other_entered : (r.recording.number ≡ 0 → ⊥) → (head : ℕ) → head ≡ head_of r → (head ≡ lot_kind → ⊥) → is_continuous p ≡ false
-      → y ≡ unsound_at f → y ≡ entered p f 0 r
-  other_entered known head said other lots fails =
-      let never : is_continuous p ≡ true → ⊥ = λ on. never_both (is_continuous p) on lots in
-      fails ∙ sym (other_record p f r known (λ e _. other (said ∙ e)) (λ _ on. absurd (never on)) (λ _ on. absurd (never on)))
+  pub other_entered : (r.recording.number ≡ 0 → ⊥) → (head : ℕ) → head ≡ head_of r → (head ≡ lot_kind → ⊥) → (kind : ℕ) → p.kind ≡ kind → (kind ≡ 3 → ⊥)
+      → Tells shown ranged None (entered p f 0 r)
+  unfolding is_continuous
+  other_entered known head said other kind of_kind lots =
+      let never : is_continuous p ≡ true → ⊥ = λ on. lots (sym of_kind ∙ eqb-true p.kind 3 on) in
+      let fails = other_record p f r known (λ e _. other (said ∙ e)) (λ _ on. absurd (never on)) (λ _ on. absurd (never on)) in
+      record { same = sym fails; in_range = tt }
 
 -- a lot's that is not without fault has something wrong
 pub some_wrong : (r : Record) (good : Bool) (head : ℕ) → good ≡ faultless r → good ≡ false → head ≡ head_of r → head ≡ lot_kind
@@ -83,4 +91,4 @@ unfolding faultless
 some_wrong r good head tested fails said lot none =
     never_both good (rw (tested, ← said, eq-eqb head lot_kind lot, eq-eqb r.c 0 none.0, eq-eqb r.d 0 none.1)) fails
 
-pub ruleset lot_records = (lot_entered, good_entered, stop_entered, other_entered, some_wrong)
+pub ruleset lot_records = (lot_entered, good_entered, other_entered, some_wrong)

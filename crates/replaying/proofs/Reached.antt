@@ -1,32 +1,22 @@
 -- What is known of figures that calls could have left, and of a turn of the replay over them. Assumes nothing.
 use Prim.Native.Nat.{ℕ, ◌<◌}
-use mathlib.Core.Path.{◌≡◌, ◌∙◌}
+use mathlib.Core.Path.{◌≡◌, refl, ◌∙◌}
 use mathlib.Core.Bool.{false}
 use mathlib.Core.List.{List}
 use native.Mathlib.Omega.{arith}
-use lib.Dec.{T}
 use Rattle.little.specs.Little.{AreBytes}
-use Rattle.little.proofs.Laws.{slice_bytes}
 use Rattle.plans.specs.Continuous.{screening}
 use Rattle.model.specs.declared.Plan.{Plan}
-use Rattle.model.specs.declared.Entry.{Entry}
 use Rattle.model.specs.declared.Figures.{Figures}
 use Rattle.model.specs.Stations.{is_credit, is_level, is_continuous}
-use Rattle.model.specs.Figuring.{no_level, figures_of}
-use Rattle.model.specs.Calls.{admissible}
+use Rattle.model.specs.Figuring.{no_level}
 use Rattle.model.specs.FigureBounds.{FiguresWithRoom}
 use Rattle.model.specs.Area.{entries_in}
 use Rattle.model.proofs.Backward.{credit_backward, level_foreign, continuous_foreign}
 use Rattle.model.proofs.FigureBounds.{figures_within}
-use Rattle.replaying.specs.Replaying.{records_in, figures_to, Ready, Reached}
+use Rattle.replaying.specs.Replaying.{records_in, figures_to, Ready, Left, Reached, On}
 use Rattle.replaying.proofs.Parts.{length_entries}
 use Rattle.replaying.proofs.Turns.{ready_admissible, turn_inside, turn_taken, turn_failed, turns_over}
-
--- figures that calls could have left
-pub record Left (p : Plan) (f : Figures) : Type 0 where
-  pub entries : List Entry
-  pub stood : T (admissible p entries)
-  pub after : f ≡ figures_of p entries
 
 module _ (p : Plan) (f : Figures) (left : Left p f) where
   -- those foreign to the plan are zero
@@ -40,9 +30,6 @@ module _ (p : Plan) (f : Figures) (left : Left p f) where
   no_continuous e = rw left.after (continuous_foreign p left.entries left.stood e)
 
 module _ (p : Plan) (f : Figures) (reached : Reached p f) where
-  pub reached_left : Left p f
-  reached_left = record { entries = reached.entries; stood = reached.stood; after = reached.after }
-
   -- every figure fits its bytes, and no sum overflows
   pub reached_within : FiguresWithRoom f
   reached_within =
@@ -63,7 +50,12 @@ module _ (p : Plan) (area : List ℕ) (f : Figures) (i to : ℕ) (ready : Ready 
   pub ready_left : Left p f
   unfolding figures_to
   ready_left =
-      record { entries = entries_in p (records_in area) i; stood = ready_admissible p area f i to ready bytes; after = ready.brought }
+      record {
+        entries = entries_in p (records_in area) i;
+        valid = ready.valid;
+        stood = ready_admissible p area f i to ready bytes;
+        after = ready.brought;
+      }
 
   pub ready_reached : i < to → Reached p f
   unfolding figures_to
@@ -76,5 +68,14 @@ module _ (p : Plan) (area : List ℕ) (f : Figures) (i to : ℕ) (ready : Ready 
         after = ready.brought;
       }
 
+-- the numbers before an entry of a call, and before a record
+module _ {C : Type 0} (kind : ℕ) (shown : C → Figures) (ranged : C → Type 0) (p : Plan) (c : C) (of_kind : p.kind ≡ kind) (in_range : ranged c) where
+  pub call_on : (f : Figures) → shown c ≡ f → Reached p f → On kind shown ranged p c
+  call_on f same reached =
+      record { of_kind = of_kind; valid = reached.valid; room = rw same (reached_within p f reached); in_range = in_range }
+
+  pub turn_on : (area : List ℕ) (i to : ℕ) → Ready p area (shown c) i to → AreBytes area → i < to → On kind shown ranged p c
+  turn_on area i to ready bytes more = call_on (shown c) refl (ready_reached p area (shown c) i to ready bytes more)
+
 -- what a replay's loop needs of its turns
-pub ruleset turns = (slice_bytes, turn_inside, turn_taken, turn_failed, turns_over, ready_reached)
+pub ruleset turns = (turn_inside, turn_taken, turn_failed, turns_over, ready_left, turn_on)

@@ -20,12 +20,9 @@ use Rattle.model.specs.Calls.{first_refusal, rule_refusals, is_discontinued, is_
 use Rattle.model.proofs.Allowed.{allowed_lot, allowed_run, allowed_block, allowed_stop, accepted_parts}
 use Rattle.model.proofs.Booleans.{both_true, never_both}
 use Rattle.rules.specs.Refusing.{is_stop}
-use Rattle.replaying.specs.declared.Entered.{Entered}
-use Rattle.replaying.specs.Replaying.{one_number, unrecorded, well_formed, head_of, flagged, holds_stop, why_of, stands, entered_if, entered, tried, asked_lot, unsound_at}
+use Rattle.std.specs.Prelude.{Some, None}
+use Rattle.replaying.specs.Replaying.{one_number, unrecorded, well_formed, head_of, flagged, holds_stop, why_of, stands, entered_if, entered, tried, asked_lot, Tells}
 use Rattle.replaying.proofs.Heads.{head_is, StopForm, stop_held, stop_form}
-
-abbrev pub entered_with : Bool → Figures → Entered
-entered_with stood f = record { sound = stood; figures = f }
 
 -- ---- entries
 
@@ -53,13 +50,13 @@ module _ (p : Plan) (f : Figures) (running : is_discontinued f ≡ false) where
   -- a lot is accepted by its label, its size and its counts
   pub lot_tried : is_continuous p ≡ false → (label N d D : ℕ) → tried p f (asked_lot p f label N d D)
       ≡ entered_if (not (same_label f.above label) && size_in_range p N && counts_agree (verdict_on p f d) N (sample_asked p f N) d D)
-      (stepped p (asked_lot p f label N d D) f) f
+      (stepped p (asked_lot p f label N d D) f)
   unfolding tried allows first_refusal rule_refusals is_full asked_lot
   lot_tried lots label N d D = rw (lots, running, eq-eqb (sample_asked p f N) (sample_asked p f N) refl)
       (rw (none_given (same_label f.above label) (size_in_range p N) (counts_agree (verdict_on p f d) N (sample_asked p f N) d D)))
 
   -- and a stop, on a stream of any plan, by its why and days
-  stop_allows : (why days : ℕ) → allows p f 0 (Stop why days) ≡ is_stop why days
+  pub stop_allows : (why days : ℕ) → allows p f 0 (Stop why days) ≡ is_stop why days
   unfolding allows first_refusal rule_refusals is_full is_stop within
   stop_allows why days = rw running (go (eqb why 2) (eqb why 1) refl refl)
     where
@@ -86,7 +83,7 @@ module _ (p : Plan) (f : Figures) (running : is_discontinued f ≡ false) where
       go false true a b = let k = eqb-true why 1 b in rw k (pause (leb days longest_stop) refl)
       go false false a b = rw (other (eqb-false why 1 b) (eqb-false why 2 a))
 
-  pub stop_tried : (why days : ℕ) → tried p f (Stop why days) ≡ entered_if (is_stop why days) (stepped p (Stop why days) f) f
+  pub stop_tried : (why days : ℕ) → tried p f (Stop why days) ≡ entered_if (is_stop why days) (stepped p (Stop why days) f)
   unfolding tried
   stop_tried why days = rw (stop_allows why days)
 
@@ -114,21 +111,12 @@ module _ (p : Plan) (f : Figures) (r : Record) where
       let e : Entry = entry_of p f r in
       rw (accepted_parts p f i e, allows_anywhere p f i e free, ← accepted_parts p f 0 e)
 
-  -- one that fails leaves the figures
-  pub entered_fails : (stood : Bool) (g : Figures) → entered_with stood g ≡ entered p f 0 r → stood ≡ false → entered_with false f ≡ entered p f 0 r
-  unfolding entered
-  entered_fails stood g told fails = rw (sym (ap (λ (e : Entered). e.sound) told) ∙ fails)
-
-  -- and what a record gives, it gives where it is read
-  pub entered_read : (q : Record) → q ≡ r → (y : Entered) → y ≡ entered p f 0 q → y ≡ entered p f 0 r
-  entered_read q read y gives = rw (← read) gives
-
   formed : (e : Entry) → well_formed r ≡ true → entry_of p f r ≡ e → lacks_recording e ≡ false → entered p f 0 r ≡ tried p f e
   unfolding entered stands tried
   formed e w same known = rw (w, same, accepted_parts p f 0 e, known, and-true (allows p f 0 e))
 
-  failed : well_formed r && accepts p f 0 (entry_of p f r) ≡ false → entered p f 0 r ≡ unsound_at f
-  unfolding entered stands unsound_at
+  failed : well_formed r && accepts p f 0 (entry_of p f r) ≡ false → entered p f 0 r ≡ None
+  unfolding entered stands
   failed e = rw e
 
   -- what is known of a record that stands: its form, and that the rules allow its entry, with the recording that 17 asks for
@@ -177,18 +165,10 @@ module _ (p : Plan) (f : Figures) (r : Record) where
   -- ---- without a recording number only a stop can stand
 
   module _ (none : r.recording.number ≡ 0) where
-    -- a record that holds a stop; and one that fails, as a stop of why 0 does by 15
+    -- a record that holds a stop
     held : StopForm r → entered p f 0 r ≡ tried p f (Stop r.flag r.a)
     unfolding well_formed entry_of lacks_recording brings_recording
     held form = formed _ (rw (form.kind, form.spare, form.bare) form.one) (rw form.kind) refl
-
-    no_stop : (days : ℕ) → tried p f (Stop 0 days) ≡ unsound_at f
-    unfolding tried unsound_at allows first_refusal rule_refusals is_full within
-    no_stop days = go (is_discontinued f)
-      where
-        go : (b : Bool) → entered_if (eqb (cond b 8 15) 0) (stepped p (Stop 0 days) f) f ≡ unsound_at f
-        go true = refl
-        go false = refl
 
     stop_alone : well_formed r ≡ true → accepts p f 0 (entry_of p f r) ≡ true → holds_stop r ≡ true
     unfolding entry_of lacks_recording brings_recording brought_by
@@ -201,16 +181,24 @@ module _ (p : Plan) (f : Figures) (r : Record) where
         let allowed = allowed_stop p f 0 _ _ (given x y (Stop r.flag r.a) (rw k)) in
         stop_held r (record { kind = k; first = allowed.first; last = allowed.last; spare = spare x y; one = one; bare = bare }))
 
-    pub stop_record : entered p f 0 r ≡ tried p f (Stop (why_of r) r.a)
+    pub stop_record : (why : ℕ) → Some why ≡ why_of r → entered p f 0 r ≡ tried p f (Stop why r.a)
     unfolding why_of
-    stop_record = go (holds_stop r) (well_formed r) (accepts p f 0 (entry_of p f r)) refl refl refl
+    stop_record why holds = go (holds_stop r) refl holds
+      where
+        go : (b : Bool) → holds_stop r ≡ b → Some why ≡ cond b (Some r.flag) None → entered p f 0 r ≡ tried p f (Stop why r.a)
+        go true s e = let same : why ≡ r.flag = cc in rw same (held (stop_form r s))
+        go false s e = cc
+
+    pub no_stop_record : None ≡ why_of r → entered p f 0 r ≡ None
+    unfolding why_of
+    no_stop_record holds = go (holds_stop r) (well_formed r) (accepts p f 0 (entry_of p f r)) refl refl refl holds
       where
         go : (b w a : Bool) → holds_stop r ≡ b → well_formed r ≡ w → accepts p f 0 (entry_of p f r) ≡ a
-            → entered p f 0 r ≡ tried p f (Stop (cond b r.flag 0) r.a)
-        go true w a s x y = held (stop_form r s)
-        go false true true s x y = absurd (never_both (holds_stop r) (stop_alone x y) s)
-        go false true false s x y = failed (rw (x, y)) ∙ sym (no_stop r.a)
-        go false false a s x y = failed (rw x) ∙ sym (no_stop r.a)
+            → None ≡ cond b (Some r.flag) None → entered p f 0 r ≡ None
+        go true w a s x y e = cc
+        go false true true s x y e = absurd (never_both (holds_stop r) (stop_alone x y) s)
+        go false true false s x y e = failed (rw (x, y))
+        go false false a s x y e = failed (rw x)
 
   -- ---- with one only a lot, run or block
 
@@ -264,25 +252,16 @@ module _ (p : Plan) (f : Figures) (r : Record) where
           (λ k bare one.
           recorded (eqb-true r.recording.number 0 (both_true (eqb r.recording.number 0) (eqb r.recording.second 0) bare).0))
 
-      pub other_record : entered p f 0 r ≡ unsound_at f
+      pub other_record : entered p f 0 r ≡ None
       other_record = go (well_formed r) (accepts p f 0 (entry_of p f r)) refl refl
         where
-          go : (w a : Bool) → well_formed r ≡ w → accepts p f 0 (entry_of p f r) ≡ a → entered p f 0 r ≡ unsound_at f
+          go : (w a : Bool) → well_formed r ≡ w → accepts p f 0 (entry_of p f r) ≡ a → entered p f 0 r ≡ None
           go true true x y = absurd (none_stands x y)
           go true false x y = failed (rw (x, y))
           go false a x y = failed (rw x)
 
--- ---- a plan's step, told in figures: once for any type of steps, by what a step is told as on the figures before it
-module _ {Step : Type 0} (tells : Figures → Step → Entered) (f : Figures) (x z : Step) where
-  -- a step that turned out to be this one
-  module _ (is : x ≡ z) (v : Entered) (told : tells f z ≡ v) where
-    pub told_in : v ≡ tells f x
-    told_in = rw is (sym told)
-
-    pub told_as_lem : (y : Entered) → tells f x ≡ y → v ≡ y
-    told_as_lem y gives = told_in ∙ gives
-
-  -- a step by a test
-  pub by_test : (b : Bool) (g : Figures) → tells f x ≡ entered_with true g → tells f z ≡ entered_with false f → tells f (cond b x z) ≡ entered_if b g f
-  by_test true g stands fails = stands
-  by_test false g stands fails = fails
+-- a plan's step, by a test: where it holds, the numbers after it stand for the figures after it
+pub by_test : {C : Type 0} (shown : C → Figures) (ranged : C → Type 0) (b : Bool) (x : C) (g : Figures) → shown x ≡ g → ranged x
+    → Tells shown ranged (cond b (Some x) None) (entered_if b g)
+by_test shown ranged true x g same kept = record { same = ap Some same; in_range = kept }
+by_test shown ranged false x g same kept = record { same = refl; in_range = tt }

@@ -1,20 +1,20 @@
 -- Reading an area record after record: what each record has to be, and what the replay then knows. Assumes nothing.
-use Rattle.std.specs.Prelude.{ℕ, zero, suc, ◌+◌, ◌*◌, ◌≤◌, ◌<◌, Bool, true, false, cond, ◌&&◌, ◌||◌, List, ◌≡◌, T, eqb, length}
+use Rattle.std.specs.Prelude.{ℕ, zero, suc, ◌+◌, ◌*◌, ◌≤◌, ◌<◌, Bool, true, false, cond, ◌&&◌, ◌||◌, List, ◌≡◌, T, eqb, length, Option, Some, None, Result, Ok, Err, IfSome, option_map}
 use Rattle.little.specs.Little.{part}
 use Rattle.model.specs.declared.Plan.{Plan}
 use Rattle.model.specs.declared.Entry.{Entry}
 use Rattle.model.specs.declared.Entry.TheVariants.{Lot}
 use Rattle.model.specs.declared.Figures.{Figures}
 use Rattle.model.specs.declared.Record.{Record}
-use Rattle.model.specs.Calls.{allows, accepts, admissible}
+use Rattle.model.specs.Calls.{is_discontinued, allows, accepts, admissible}
 use Rattle.model.specs.Sizes.{record_length, header_length, most_records, area_length}
 use Rattle.model.specs.Stations.{valid_plan}
+use Rattle.model.specs.FigureBounds.{FiguresWithRoom}
 use Rattle.plans.specs.Limits.{within}
 use Rattle.model.specs.Figuring.{sample_asked, started, stepped, figures_of}
 use Rattle.model.specs.Records.{no_recording, lot_kind, run_kind, block_kind, stop_kind, record_in, entry_of}
 use Rattle.model.specs.Area.{entries_in}
 use Rattle.records.specs.Records.{record_at}
-use Rattle.replaying.specs.declared.Entered.{Entered}
 
 -- a record without a second, third or fourth number
 abbrev pub one_number : Record → Bool
@@ -61,45 +61,45 @@ faultless r = eqb (head_of r) lot_kind && (eqb r.c 0 && eqb r.d 0)
 unfoldable pub holds_stop : Record → Bool
 holds_stop r = eqb r.kind stop_kind && within 1 2 r.flag && eqb r.spare 0 && one_number r && unrecorded r
 
--- the why of the stop that a record holds, 0 where it holds none, or one for a why that there is not: 15 refuses both
-unfoldable pub why_of : Record → ℕ
-why_of r = cond (holds_stop r) r.flag 0
+-- the why of the stop that a record holds
+unfoldable pub why_of : Record → Option ℕ
+why_of r = cond (holds_stop r) (Some r.flag) None
 
 -- a record that some accepted call could have left as the i-th, after figures f
 unfoldable pub stands : Plan → Figures → ℕ → Record → Bool
 stands p f i r = well_formed r && accepts p f i (entry_of p f r)
 
--- where the test holds the figures are those after, and else those before
-abbrev pub entered_if : Bool → Figures → Figures → Entered
-entered_if test after before = record { sound = test; figures = cond test after before }
+-- the figures after, where the test holds
+abbrev pub entered_if : Bool → Figures → Option Figures
+entered_if test after = cond test (Some after) None
 
--- what entering a record gives: whether it stands, and the figures after it
-unfoldable pub entered : Plan → Figures → ℕ → Record → Entered
-entered p f i r = entered_if (stands p f i r) (stepped p (entry_of p f r) f) f
+-- what entering a record gives: the figures after it, where it stands
+unfoldable pub entered : Plan → Figures → ℕ → Record → Option Figures
+entered p f i r = entered_if (stands p f i r) (stepped p (entry_of p f r) f)
 
--- what an entry gives wherever a place is free: whether paper 01's rules allow it, and the figures after it. They look at no recording, so that
--- an entry is tried without one
-unfoldable pub tried : Plan → Figures → Entry → Entered
-tried p f e = entered_if (allows p f 0 e) (stepped p e f) f
+-- what an entry gives wherever a place is free: the figures after it, where paper 01's rules allow it. They look at no recording, so
+-- that an entry is tried without one
+unfoldable pub tried : Plan → Figures → Entry → Option Figures
+tried p f e = entered_if (allows p f 0 e) (stepped p e f)
 
 -- a lot with the sample that was asked
 unfoldable pub asked_lot : Plan → Figures → ℕ → ℕ → ℕ → ℕ → Entry
 asked_lot p f label N d D = Lot label N (sample_asked p f N) d D no_recording
 
--- figures that calls could have left, with a place free for one entry more
+-- figures that calls could have left
+pub record Left (p : Plan) (f : Figures) : Type 0 where
+  pub entries : List Entry
+  pub valid : T (valid_plan p)
+  pub stood : T (admissible p entries)
+  pub after : f ≡ figures_of p entries
+
+-- and with a place free for one entry more
 pub record Reached (p : Plan) (f : Figures) : Type 0 where
   pub entries : List Entry
   pub valid : T (valid_plan p)
   pub stood : T (admissible p entries)
   pub free : length entries < most_records
   pub after : f ≡ figures_of p entries
-
--- a record that stands brings other figures; one that cannot leaves them
-unfoldable pub sound_at : Figures → Entered
-sound_at f = record { sound = true; figures = f }
-
-unfoldable pub unsound_at : Figures → Entered
-unsound_at f = record { sound = false; figures = f }
 
 -- the records of an area
 unfoldable pub records_in : List ℕ → List ℕ
@@ -123,13 +123,40 @@ pub record Ready (p : Plan) (area : List ℕ) (f : Figures) (from to : ℕ) : Ty
   pub stood : stand_to p area from ≡ true
   pub brought : f ≡ figures_to p area from
 
--- a record whole in the area, and what is known of the numbers before it
-pub record ReadAt (area : List ℕ) (at : ℕ) (On : Type 0) : Type 0 where
-  pub in_area : at + record_length ≤ length area
-  pub on : On
+-- the figures of a replay, whether all records stood or not
+abbrev pub figures_told : Result Figures Figures → Figures
+figures_told (Ok f) = f
+figures_told (Err f) = f
+
+-- where records stand the figures are those after them, and else those before
+abbrev pub replayed_if : Bool → Figures → Figures → Result Figures Figures
+replayed_if stand after before = cond stand (Ok after) (Err before)
 
 -- what a replay of an area's first records gives, entry after entry: the figures after them where each stands, and else those before the
 -- first that does not
-unfoldable pub replayed : Plan → List ℕ → ℕ → Entered
-replayed p area zero = sound_at (started p)
-replayed p area (suc i) = entered_if (stand_to p area (suc i)) (figures_to p area (suc i)) (replayed p area i).figures
+unfoldable pub replayed : Plan → List ℕ → ℕ → Result Figures Figures
+replayed p area zero = Ok (started p)
+replayed p area (suc i) = replayed_if (stand_to p area (suc i)) (figures_to p area (suc i)) (figures_told (replayed p area i))
+
+-- numbers of a stream whose plan is of this kind: with a place free, so that no sum overflows
+pub record On {C : Type 0} (kind : ℕ) (shown : C → Figures) (ranged : C → Type 0) (p : Plan) (c : C) : Type 0 where
+  pub of_kind : p.kind ≡ kind
+  pub valid : T (valid_plan p)
+  pub room : FiguresWithRoom (shown c)
+  pub in_range : ranged c
+
+-- and of a stream that goes on
+pub record GoesOn {C : Type 0} (kind : ℕ) (shown : C → Figures) (ranged : C → Type 0) (p : Plan) (c : C) : Type 0 where
+  pub on : On kind shown ranged p c
+  pub goes_on : is_discontinued (shown c) ≡ false
+
+-- numbers after a step, told in the figures that they stand for: what the entry gives, and numbers in their range
+pub record Tells {C : Type 0} (shown : C → Figures) (ranged : C → Type 0) (after : Option C) (gives : Option Figures) : Type 0 where
+  pub same : option_map shown after ≡ gives
+  pub in_range : IfSome after ranged
+
+-- the same of numbers brought up to date in their place, by whether the record stood; they are kept where it did not
+pub record Brings {C : Type 0} (shown : C → Figures) (ranged : C → Type 0) (stood : Bool) (old new : C) (gives : Option Figures) : Type 0 where
+  pub same : entered_if stood (shown new) ≡ gives
+  pub in_range : ranged new
+  pub kept : stood ≡ false → shown new ≡ shown old

@@ -1,3 +1,3 @@
--- Laws of a lot's counts, and of refusals in turn.
+-- Laws of a lot's counts, and of refusals up to the last.
 pub mod Counts
 pub mod UpToLast

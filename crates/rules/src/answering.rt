@@ -10,7 +10,9 @@ ghost use Rattle.model.specs.Calls.{
   lot_figure,
   read_figure,
 };
+ghost use Rattle.rules.specs.Refusing.{number_of, answered};
 
+use crate::refusing::Refusal;
 use crate::{asking, plan};
 use model::{Answer, Figures, HeardLot, Plan};
 use plans::{continuous, verdict};
@@ -27,6 +29,21 @@ pub fn refused(refusal: u32) -> Answer
     }
 }
 
+impl From<Refusal> for Answer {
+    ghost from_gives = { λ refusal answer. answer ≡ refused_by (number_of refusal) };
+
+    fn from(refusal: Refusal) -> Answer {
+        refused(refusal as u32)
+    }
+}
+
+// What a call gives, as a whole: its numbers, or its refusal's.
+pub fn answered(tried: Result<Answer, Refusal>) -> Answer
+    ensures { result ≡ answered tried }
+{
+    tried.unwrap_or_else(Answer::from)
+}
+
 pub fn gives(first: u32, second: u32, third: u32) -> Answer
     ensures { result ≡ gives_these first second third }
 {
@@ -39,6 +56,7 @@ pub fn gives(first: u32, second: u32, third: u32) -> Answer
 }
 
 // Credit, or level, or c, in sampling 65,536 + u.
+#[tactic(auto, unfolding(model::specs::Calls::read_figure, model::specs::Stations::is_continuous, plans::specs::Continuous::is_sampling))]
 pub fn read_figure(plan: Plan, figures: Figures) -> u32
     ensures { result ≡ read_figure plan figures }
 {
@@ -53,6 +71,7 @@ pub fn read_figure(plan: Plan, figures: Figures) -> u32
 }
 
 // Credit, or level.
+#[tactic(auto, unfolding(model::specs::Calls::lot_figure, model::specs::Stations::is_credit))]
 fn lot_figure(plan: Plan, figures: Figures) -> u32
     ensures { result ≡ lot_figure plan figures }
 {

@@ -9,9 +9,11 @@ ghost use Rattle.model.specs.Figuring.{sample_asked, verdict_on};
 use crate::plan;
 use model::{Figures, Plan};
 use plans::continuous::Block;
-use plans::{LotSize, SampleSize, tables, verdict};
+use plans::tables::VerificationLevel;
+use plans::{LotSize, SampleSize, verdict};
 
 // The sample that a lot asks for: on a credit plan, the least whole number not below the quotient of document 004, clause 10, note 1.
+#[tactic(auto, using(model::proofs::Allowed::plan_range, model::proofs::Allowed::level_plan), unfolding(model::specs::Stations::is_credit, model::specs::Figuring::sample_asked))]
 pub fn sample(plan: Plan, figures: Figures, size: LotSize) -> SampleSize
     requires { T (valid_plan plan) × (is_continuous plan ≡ false) × (figures.credit.0 ≤ largest_credit) × (1 ≤ size.0) × (size.0 ≤ largest_lot) }
     ensures result_value { result.0 ≡ sample_asked plan figures size.0 }
@@ -23,10 +25,11 @@ pub fn sample(plan: Plan, figures: Figures, size: LotSize) -> SampleSize
         return credit.sample(plan.ceiling, size, plan.a);
     }
     let level = figures.level;
-    tables::sample_size(plan.a, level.level, size)
+    VerificationLevel { number: plan.a }.sample_size(level.level, size)
 }
 
 // The verdict on a lot with so many wrong in its sample.
+#[tactic(auto, unfolding(model::specs::Figuring::verdict_on, model::specs::Stations::is_credit, model::specs::Stations::has_option))]
 pub fn verdict(plan: Plan, figures: Figures, wrong: u32) -> u32
     ensures { result ≡ verdict_on plan figures wrong }
 {

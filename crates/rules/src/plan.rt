@@ -10,6 +10,7 @@ use plans::credit::Credit;
 use plans::level::LevelState;
 use plans::limits;
 
+// Kept: a kind stays a number: `is_valid`, `asking::verdict` and `listening::open` promise an answer for a plan of every number.
 pub const CREDIT: u32 = 1;
 
 pub const LEVEL: u32 = 2;
@@ -17,6 +18,9 @@ pub const LEVEL: u32 = 2;
 pub const CONTINUOUS: u32 = 3;
 
 // Whether a stream may be opened so: what refusal 5 leaves.
+// Kept: a bool, and no type for a valid plan: what asks `valid_plan` goes on with the plan itself (`header_of`, `sample_asked`), and would
+// have to take it out of the type in every clause.
+#[tactic(auto, unfolding(model::specs::Stations::valid_plan))]
 pub fn is_valid(plan: Plan) -> bool
     ensures { result ≡ valid_plan plan }
 {
@@ -24,6 +28,7 @@ pub fn is_valid(plan: Plan) -> bool
 }
 
 // The figures of a stream that has just been opened.
+#[tactic(auto, unfolding(model::specs::Figuring::started, model::specs::Figuring::no_level, model::specs::Stations::is_level))]
 pub fn started(plan: Plan) -> Figures
     ensures { result ≡ started_figures plan }
 {
@@ -39,23 +44,20 @@ pub fn started(plan: Plan) -> Figures
 }
 
 // Whether A, B and the option are in the ranges of the plan's kind.
+#[tactic(auto, unfolding(model::specs::Stations::valid_ranges, model::specs::Stations::is_credit, model::specs::Stations::is_level, model::specs::Stations::is_continuous))]
 fn is_in_ranges(plan: Plan) -> bool
     ensures { result ≡ valid_ranges plan }
 {
-    let kind = plan.kind;
-    if kind == CREDIT {
-        return is_for_lots(plan, limits::LARGEST_AOQL);
+    match plan.kind {
+        CREDIT => is_for_lots(plan, limits::LARGEST_AOQL),
+        LEVEL => is_for_lots(plan, limits::VERIFICATION_LEVELS),
+        CONTINUOUS => is_for_blocks(plan),
+        _ => false,
     }
-    if kind == LEVEL {
-        return is_for_lots(plan, limits::VERIFICATION_LEVELS);
-    }
-    if kind == CONTINUOUS {
-        return is_for_blocks(plan);
-    }
-    false
 }
 
 // Whether the plan may have its ceiling: only a credit plan sets one.
+#[tactic(auto, unfolding(model::specs::Stations::valid_ceiling, model::specs::Stations::is_credit))]
 fn may_have_ceiling(plan: Plan) -> bool
     ensures { result ≡ valid_ceiling plan }
 {
@@ -69,26 +71,16 @@ fn may_have_ceiling(plan: Plan) -> bool
 fn is_for_lots(plan: Plan, most: u32) -> bool
     ensures { result ≡ within 1 most plan.a && eqb plan.b 0 && leb plan.option 1 }
 {
-    if !limits::within(1, most, plan.a) {
-        return false;
-    }
-    if plan.b != 0 {
-        return false;
-    }
-    plan.option <= 1
+    limits::within(1, most, plan.a) && plan.b == 0 && plan.option <= 1
 }
 
 // What refusal 5 leaves of a continuous plan, but for the ceiling.
 fn is_for_blocks(plan: Plan) -> bool
     ensures { result ≡ within 1 largest_clearance plan.a && within 2 largest_interval plan.b && eqb plan.option 0 }
 {
-    if !limits::within(1, limits::LARGEST_CLEARANCE, plan.a) {
-        return false;
-    }
-    if !limits::within(2, limits::LARGEST_INTERVAL, plan.b) {
-        return false;
-    }
-    plan.option == 0
+    limits::within(1, limits::LARGEST_CLEARANCE, plan.a)
+        && limits::within(2, limits::LARGEST_INTERVAL, plan.b)
+        && plan.option == 0
 }
 
 // The figures of a new stream with this level state; those foreign to its plan are zero.

@@ -7,17 +7,9 @@ use Rattle.model.proofs.Booleans.{of_holds}
 use mathlib.Core.Path.{◌≡◌, sym, ◌∙◌}
 use mathlib.Core.Bool.{true}
 use native.Mathlib.Omega.{arith}
-use borrow.Author.Tests.{eq-eqb, ne_eqb}
+use borrow.Author.Tests.{eq-eqb}
 use Rattle.frame_text.proofs.parse.Goals as goal
 use Rattle.frame_text.proofs.parse.Goals.{Else-not-all_digits}
-
-pub returns-then-line-ne-FRAME_LENGTH : goal.returns-then-line-ne-FRAME_LENGTH
-unfolding frame_of
-returns-then-line-ne-FRAME_LENGTH c = simp (ne_eqb _ _ c.if-line-ne-FRAME_LENGTH.true)
-
-pub returns-then-not-all_digits : goal.returns-then-not-all_digits
-unfolding frame_of
-returns-then-not-all_digits c = simp (eq-eqb _ _ c.if-line-ne-FRAME_LENGTH.false, sym c.all_digits.ensures ∙ c.if-not-all_digits.true)
 
 digits : (c : Else-not-all_digits) → all_digits c.args.line.now ≡ true
 digits c = sym c.all_digits.ensures ∙ c.if-not-all_digits.false

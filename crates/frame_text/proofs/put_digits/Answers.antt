@@ -1,8 +1,8 @@
--- The loop's invariant: writing the digits that are left, in front of those that were stored, gives the same list. The measure is how many are left.
+-- The loop's invariant: writing the digits that are left, in front of those that were stored, gives the same list.
 use Rattle.frame_text.proofs.Laws.{length_digits}
 use Rattle.frame_text.specs.Digits.{digit_of, digits_of}
 use native.Mathlib.Omega.{arith}
-use mathlib.Core.Path.{◌≡◌, refl, sym, ◌∙◌}
+use mathlib.Core.Path.{◌≡◌, sym, ◌∙◌}
 use mathlib.Core.List.{List, [], ◌∷◌, ◌++◌, append_assoc}
 use Prim.Native.Nat.{ℕ, zero, suc, ◌+◌, ◌-◌, ◌/◌, ◌%◌, ◌≤◌, ◌<◌}
 use lib.ListN.{length, set, length-set, length-append}
@@ -10,7 +10,6 @@ use lib.Seq.{drop-cons, take-set-le, drop-set-lt, get_or-set_same}
 use Rattle.little.specs.Little.{written}
 use Rattle.little.proofs.Laws.{written_nil}
 use Rattle.frame_text.proofs.put_digits.Goals as goal
-use Rattle.frame_text.proofs.put_digits.Goals.{At-loop-i}
 
 -- storing a digit, and then writing those before it, writes them all
 write-before : (at : ℕ) (a s : List ℕ) (b : ℕ) → at + length a < length s → written at a (set s (at + length a) b) ≡ written at (a ++ (b ∷ [])) s
@@ -36,17 +35,11 @@ digit-before at (suc k) n s pos fits =
     let counted : length (digits_of k (n / 16)) ≡ k = length_digits k (n / 16) in
     rw less (rw counted at (write-before at (digits_of k (n / 16)) s (digit_of (n % 16)) (rw counted (omega arith))))
 
-pub loop-i-init : goal.loop-i-init
-loop-i-init c = (omega arith, (refl, refl))
-
 pub loop-i-preserved : goal.loop-i-preserved
-loop-i-preserved c =
-    let inv = c.loop-i.invariant in
-    (omega arith, (rw length-set inv.1.0, rw c.digit_of.ensures (digit-before _ _ _ _ (omega arith) (omega arith) ∙ inv.1.1)))
+loop-i-preserved c = rw c.digit_of.ensures (digit-before _ _ _ _ (omega arith) (omega arith) ∙ c.loop-i.invariant)
 
 pub returns : goal.returns
 unfolding digits_of
 returns c =
-    let at-loop = (goal.at.returns c).At-loop-i in
-    let none : at-loop.loop-i.i ≡ 0 = omega arith in
-    sym (written_nil _ _) ∙ rw none at at-loop.loop-i.invariant.1.1
+    let none : c.loop-i.i ≡ 0 = omega arith in
+    sym (written_nil _ _) ∙ rw none at c.loop-i.invariant

@@ -1,12 +1,7 @@
 use Rattle.frame_text.specs.Digits.{digits_of}
 use mathlib.Core.Path.{◌≡◌}
-use Prim.Native.Nat.{◌≤◌}
-use lib.ListN.{length}
 use Rattle.little.specs.Little.{written}
 use Rattle.frame_text.proofs.put_digits.Given as goal
 
 abbrev pub invariant-loop-i : goal.invariant-loop-i
-invariant-loop-i l = (l.i ≤ l.width) × ((length l.out ≡ length l.initial.out) × (written l.at (digits_of l.i l.rest) l.out ≡ written l.at (digits_of l.width l.n) l.initial.out))
-
-abbrev pub decreases-loop-i : goal.decreases-loop-i
-decreases-loop-i l = l.i
+invariant-loop-i l = written l.at (digits_of l.i l.rest) l.out ≡ written l.at (digits_of l.width l.n) l.initial.out

@@ -4,12 +4,9 @@ use Rattle.areas.proofs.Rewriting.{length_rewritten}
 use Rattle.model.proofs.AreaReading.{length_record}
 use Rattle.model.proofs.OnStore.{length_area_at}
 use Rattle.listening.proofs.put_entry.Goals as goal
-use Rattle.listening.proofs.put_entry.Goals.{After-start_of-start}
 
 pub returns : goal.returns
 returns c =
-    let start = (goal.at.returns c).After-start_of-start in
-    let called = start.before.before in
-    let whole = length_area_at _ _ called.requires.whole called.requires.known in
-    rw (c.put_entry.ensures, part_lent _ _ start.start_of-start.ensures)
-    (part_back _ _ start.start_of-start.ensures _ (length_rewritten _ _ _ _ _ _ called.requires.room (length_record _) whole))
+    let whole = length_area_at _ _ c.requires.whole c.requires.known in
+    rw (c.put_in_part.ensures, part_lent _ _ c.start_of-start.ensures)
+    (part_back _ _ c.start_of-start.ensures _ (length_rewritten _ _ _ _ _ _ c.requires.room (length_record _) whole))

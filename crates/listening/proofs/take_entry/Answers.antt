@@ -4,13 +4,13 @@ use Rattle.areas.proofs.Rewriting.{length_rewritten}
 use Rattle.model.proofs.OnStore.{length_area_at}
 use mathlib.Core.Path.{refl}
 use Rattle.listening.proofs.take_entry.Goals as goal
-use Rattle.listening.proofs.take_entry.Goals.{After-start_of-start}
 
-pub returns : goal.returns
-returns c =
-    let start = (goal.at.returns c).After-start_of-start in
-    let called = start.before.before in
-    let whole = length_area_at _ _ called.requires.whole called.requires.known in
-    let taken = c.take_entry.ensures in
-    let lent = part_lent called.args.store.now called.args.stream start.start_of-start.ensures in
-    (rw lent at taken.0, rw (taken.1, lent) (part_back _ _ start.start_of-start.ensures _ (length_rewritten _ _ _ _ _ _ called.requires.room refl whole)))
+pub returns-clause-kind : goal.returns-clause-kind
+returns-clause-kind c = rw (part_lent _ _ c.start_of-start.ensures) at c.take_from_part.ensures.0
+
+pub returns-clause-left : goal.returns-clause-left
+returns-clause-left c =
+    let may = c.requires.may in
+    let whole = length_area_at _ _ may.whole may.known in
+    rw (c.take_from_part.ensures.1, part_lent _ _ c.start_of-start.ensures)
+    (part_back _ _ c.start_of-start.ensures _ (length_rewritten _ _ _ _ _ _ may.room refl whole))

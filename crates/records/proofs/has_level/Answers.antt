@@ -2,15 +2,12 @@
 -- Assumes nothing.
 use borrow.Author.Tests.{eq-eqb}
 use native.Mathlib.Omega.{arith}
-use mathlib.Core.Path.{◌≡◌, refl}
+use mathlib.Core.Path.{refl}
 use lib.Dec.{lit<}
-use lib.ListN.{length}
 use Rattle.little.specs.Little.{bytes, part}
-use Rattle.model.specs.Sizes.{area_length}
 use Rattle.model.specs.Area.{header_of}
 use Rattle.records.proofs.Laws.{byte_compares, both_compare, byte_differs}
 use Rattle.records.proofs.has_level.Goals as goal
-use Rattle.records.proofs.has_level.Goals.{Else-byte-state-3, Start}
 
 pub returns-then-byte-state : goal.returns-then-byte-state
 unfolding header_of bytes part
@@ -33,17 +30,12 @@ returns-then-byte-state-3 c = λ p n f e.
 pub returns : goal.returns
 unfolding header_of bytes part
 returns c = λ p n f e.
-    let past-judged = (goal.at.returns c).Else-byte-state-3 in
-    let past_row = past-judged.before.before.before in
-    let past-level = past_row.before.before.before in
-    let start = past-level.before.before.before.before in
-    let area = start.args.area.now in
-    let state = start.args.state in
-    let long : length area ≡ area_length = start.requires in
-    let level = byte_compares 20 state.level area (omega arith) past-level.byte.ensures.0 in
-    let row = byte_compares 21 state.row area (omega arith) past_row.byte-2.ensures.0 in
-    let judged = byte_compares 22 state.judged area (omega arith) past-judged.byte-3.ensures.0 in
+    let area = c.args.area.now in
+    let state = c.args.state in
+    let level = byte_compares 20 state.level area (omega arith) c.byte.ensures.0 in
+    let row = byte_compares 21 state.row area (omega arith) c.byte-2.ensures.0 in
+    let judged = byte_compares 22 state.judged area (omega arith) c.byte-3.ensures.0 in
     let window = byte_compares 23 state.window area (omega arith) c.byte-4.ensures.0 in
     rw e
-    (rw (eq-eqb _ _ past-level.if-byte-state.false, eq-eqb _ _ past_row.if-byte-state-2.false, eq-eqb _ _ past-judged.if-byte-state-3.false) at
+    (rw (eq-eqb _ _ c.if-byte-state.false, eq-eqb _ _ c.if-byte-state-2.false, eq-eqb _ _ c.if-byte-state-3.false) at
     (both_compare (both_compare (both_compare level row refl) judged refl) window refl).decides)

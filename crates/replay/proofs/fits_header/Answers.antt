@@ -1,23 +1,13 @@
--- The header is compared with the figures after the newest records, or with those at hand where none is set apart.
+-- The header is compared with the figures after the newest records; where one of these cannot stand, it fits none.
 use mathlib.Core.Path.{sym, ◌∙◌}
-use borrow.Author.Tests.{not-true, not-false}
-use Rattle.replaying.proofs.Turns.{all_stand, figures_after}
+use Rattle.replaying.proofs.Turns.{all_stand, one_fails, figures_after}
 use Rattle.replay.proofs.Readings.{fits_stored, fits_no_failed}
 use Rattle.replay.proofs.fits_header.Goals as goal
 
-pub returns-then-from-to : goal.returns-then-from-to
-returns-then-from-to c =
-    let ready = c.requires in
-    let none = c.if-from-to.true in
-    fits_stored _ _ _ _ _ (rw none at ready.stood) (rw none at ready.brought) c.has_header.ensures
+pub returns-in-Ok : goal.returns-in-Ok
+returns-in-Ok c =
+    let gives = sym c.in-Ok.is ∙ c.replay.ensures in
+    fits_stored _ _ _ _ _ (all_stand _ _ _ _ gives) (figures_after _ _ _ _ gives) c.has_header-in-Ok.ensures
 
-pub returns-then-not-all : goal.returns-then-not-all
-returns-then-not-all c =
-    let all = c.replay_newest-all in
-    fits_no_failed _ _ _ (sym (all_stand _ _ _ _ all.ensures) ∙ not-true all.result.sound c.if-not-all.true)
-
-pub returns : goal.returns
-returns c =
-    let all = c.replay_newest-all in
-    let sound = not-false all.result.sound c.if-not-all.false in
-    fits_stored _ _ _ _ _ (sym (all_stand _ _ _ _ all.ensures) ∙ sound) (figures_after _ _ _ _ all.ensures sound) c.has_header-2.ensures
+pub returns-in-Err : goal.returns-in-Err
+returns-in-Err c = fits_no_failed _ _ _ (one_fails _ _ _ _ (sym c.in-Err.is ∙ c.replay.ensures))

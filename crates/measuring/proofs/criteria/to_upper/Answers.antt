@@ -1,23 +1,17 @@
--- n U - Σx where the limit is given: `upper_done`.
-use mathlib.Core.Path.{refl}
-use native.Mathlib.Omega.{arith}
-use Rattle.measuring.specs.Judging.{to_upper}
-use Rattle.measuring.proofs.Inside.{product_fits, upper_fits, upper_done}
+-- n U and Σx lie no further apart than a distance can be, and n U - Σx is `to_upper` where the limit is given: `upper_done`.
+use Rattle.measuring.proofs.Inside.{product_size, product_fits, upper_done, apart_fits, apart_near}
 use Rattle.measuring.proofs.criteria.to_upper.Goals as goal
 
-pub returns-in-Given : goal.returns-in-Given
-returns-in-Given c =
-    let done = upper_done c.requires.0 c.in-Given.is c.requires.1 in
-    record { value = done.0; near = done.1 }
-
 pub overflow_mul-result : goal.overflow_mul-result
-unfolding to_upper
-overflow_mul-result c = search product_fits
+overflow_mul-result c = product_fits c.sample.invariant c.in-Some.is c.requires
 
 pub overflow_sub-result : goal.overflow_sub-result
-unfolding to_upper
-overflow_sub-result c = search upper_fits
+overflow_sub-result c =
+    search (apart_fits c.sample.invariant, product_size c.sample.invariant c.in-Some.is c.requires, c.sample.invariant.near)
 
-pub returns-in-Absent : goal.returns-in-Absent
-unfolding to_upper
-returns-in-Absent c = record { value = rw c.in-Absent.is refl; near = omega arith }
+pub invariant_of-result-2 : goal.invariant_of-result-2
+invariant_of-result-2 c =
+    search (apart_near c.sample.invariant, product_size c.sample.invariant c.in-Some.is c.requires, c.sample.invariant.near)
+
+pub returns : goal.returns
+returns c = rw (← c.sample.view_is) (upper_done c.sample.invariant c.in-Some.is c.requires)

@@ -1,0 +1,6 @@
+-- The numbers taken from the figures stand for them.
+use Rattle.replay_credit.proofs.Steps.{numbers_of}
+use Rattle.replay_credit.proofs.CarriedNumbers.of.Goals as goal
+
+pub returns : goal.returns
+returns c = search numbers_of
