@@ -26,7 +26,7 @@ pub fn open(area: &mut [u8; AREA_LENGTH], plan: Plan)
 }
 
 // Enters a record behind those that stand, with the figures after it.
-// Kept: plan, count and figures, as `rewritten` takes them: a struct of the three would be made at each call, for that call alone.
+// Kept: plan, count and figures apart: a `Standing` has the figures before the entry, and `rewritten` takes those after it.
 #[tactic(auto, unfolding(crate::specs::Written::rewritten))]
 pub fn put_entry(
     area: &mut [u8; AREA_LENGTH],
@@ -43,7 +43,7 @@ pub fn put_entry(
 }
 
 // Takes the newest record back: clears it, writes the figures before it, and gives its kind.
-// Kept: the kind is a number: it is whatever the record's byte holds, and an answer's (`Answer`, paper 01).
+// Kept: the kind is a number: the record's byte may hold any (`record_in`), and `Answer` has numbers (C).
 #[tactic(auto, unfolding(crate::specs::Written::rewritten))]
 pub fn take_entry(area: &mut [u8; AREA_LENGTH], plan: Plan, last: usize, figures: Figures) -> u32
     requires { T (valid_plan plan) × (last < most_records) × LevelFits figures.level }

@@ -13,14 +13,11 @@ use Rattle.std.specs.Prelude.{Option, Some, None}
 use Rattle.std.proofs.lemmas.List.{drop-drop, drop_all}
 use Rattle.little.specs.Little.{written}
 use Rattle.little.proofs.Laws.{written_nil, written_next}
-use Rattle.model.specs.declared.Answer.{Answer}
 use Rattle.model.specs.Area.{zeros}
-use Rattle.model.specs.Store.{on_store}
-use Rattle.model.specs.Claims.{on}
 use Rattle.model.proofs.Booleans.{both_true}
 use Rattle.numbering.specs.declared.Frame.{Frame}
 use Rattle.frame_text.specs.Frames.{frame_length, frame_of}
-use Rattle.frame_text.specs.Answers.{line_feed, text_length, bad_length, answer_text, bad_text}
+use Rattle.frame_text.specs.Answers.{line_feed, text_length}
 use Rattle.frame_text.specs.Program.{LineOutcome, on_frame, on_line}
 use Rattle.frame_text.specs.Feeding.{
   Unfinished,
@@ -75,19 +72,6 @@ module _ (buffer : List ℕ) (have : ℕ) (line : List ℕ) (h : LineHeld buffer
 
 pub nothing_printed : (store out : List ℕ) → Answered (record { text = []; store = store }) out 0 store out
 nothing_printed store out = record { made = refl; text = sym (written_nil 0 out); count = refl }
-
--- ---- a line that ended
-
-pub frame_made : (store out : List ℕ) (f : Frame) (r : Answer) (store' out' : List ℕ)
-    → record { answer = r; store = store' } ≡ on_store store (on f.stream f.call)
-    → out' ≡ written 0 (answer_text r) out
-    → Answered (on_frame store (Some f)) out text_length store' out'
-unfolding on_frame
-frame_made store out f r store' out' made text = rw (← made) (record { made = refl; text = text; count = sym (length_answer r) })
-
-pub bad_line : (store line out out' : List ℕ) → frame_of line ≡ None → out' ≡ written 0 bad_text out → Answered (on_line store line) out bad_length store out'
-unfolding on_line on_frame
-bad_line store line out out' none text = rw none (record { made = refl; text = text; count = sym length_bad })
 
 -- a text that is written from the front on lies inside its buffer
 pub text_inside : (o : LineOutcome) (out : List ℕ) (wrote : ℕ) (store' out' : List ℕ) → Answered o out wrote store' out' → wrote ≤ length out'
@@ -280,3 +264,6 @@ pub something_left : (store line out : List ℕ) (wrote : ℕ) (store' out' : Li
 unfolding at_end last_line
 something_left store [] out wrote store' out' some answered = absurd (some refl)
 something_left store (b ∷ line) out wrote store' out' some answered = answered
+
+-- what `feed` hands to the search
+pub ruleset feeds = (whole_inside, nothing_fed, byte_next)

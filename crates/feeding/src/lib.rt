@@ -21,6 +21,7 @@ use numbering::Frame;
 //
 // Speed: a frame that lies whole in the piece, with no line begun before it, is not copied: its call is made from where it lies. Byte by
 // byte the program takes 1.2 times as long on two million random frames.
+#[tactic(auto, using(crate::proofs::Laws::feeds))]
 pub fn feed(store: &mut [u8], line: &mut Line, piece: &[u8], out: &mut [u8]) -> usize
     requires { text_length * length piece.now ≤ length out.old }
     ensures { FedBy (held store.old line.old) piece.now out.old result store.new line.new out.new }
@@ -77,7 +78,7 @@ fn take_byte(store: &mut [u8], line: &mut Line, byte: u8, out: &mut [u8]) -> usi
 }
 
 // A line ended: makes its call, if it is a frame, and writes its text. Answers how many bytes of text it wrote.
-#[tactic(auto, unfolding(frame_text::specs::Program::on_line))]
+#[tactic(auto, using(frame_text::proofs::Laws::length_bad), unfolding(frame_text::specs::Program::on_line, frame_text::specs::Program::on_frame))]
 fn end_line(store: &mut [u8], line: &[u8], out: &mut [u8]) -> usize
     requires { text_length ≤ length out.old }
     ensures { Answered (on_line store.old line.now) out.old result store.new out.new }
@@ -91,6 +92,7 @@ fn end_line(store: &mut [u8], line: &[u8], out: &mut [u8]) -> usize
 
 // Makes a frame's call and writes its answer; answers how many bytes of text that is.
 // Kept: room for one text is required in four: the buffer is lent (fixed memory), and only `feed` knows how much of it is left.
+#[tactic(auto, using(frame_text::proofs::Laws::length_answer), unfolding(frame_text::specs::Program::on_frame))]
 fn make_call(store: &mut [u8], frame: Frame, out: &mut [u8]) -> usize
     requires { text_length ≤ length out.old }
     ensures { Answered (on_frame store.old (Some frame)) out.old result store.new out.new }

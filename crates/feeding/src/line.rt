@@ -10,6 +10,7 @@ use std::marker::Model;
 pub const LINE_ROOM: usize = FRAME_LENGTH + 1;
 
 // The unfinished line is the first `have` bytes, with zeros behind it: no byte of an earlier line stays there.
+// Kept: an array with its length beside, since memory is fixed (no heap).
 #[derive(Drop)]
 pub struct Line {
     pub bytes: [u8; LINE_ROOM],

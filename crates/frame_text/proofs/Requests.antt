@@ -10,6 +10,7 @@ use lib.ListN.{length}
 use Rattle.std.specs.Prelude.{Option, Some, None}
 use Rattle.little.specs.Little.{part}
 use Rattle.little.proofs.Laws.{length_part}
+use Rattle.model.specs.Stations.{arguments, all_words}
 use Rattle.model.specs.Store.{on_store, store_after}
 use Rattle.model.specs.Claims.{are_words}
 use Rattle.model.proofs.Booleans.{both_true, of_holds}
@@ -19,7 +20,6 @@ use Rattle.numbering.proofs.Small.{Small, numbered_small, words_before}
 use Rattle.frame_text.specs.Digits.{all_digits, hex_value}
 use Rattle.frame_text.specs.Frames.{byte_digits, word_digits, frame_length, call_number, stream_in, argument, arguments_to, frame_of}
 use Rattle.frame_text.specs.Program.{on_frame, on_line, requests_in, store_from}
-use Rattle.frame_text.specs.Claims.{FramesAreSmall, MakesCalls}
 use Rattle.frame_text.proofs.Laws.{value_below, digits_part}
 use Rattle.frame_text.proofs.Fields.{Below, below_last, below_at}
 
@@ -50,19 +50,25 @@ frame_small line = go (eqb (length line) frame_length && all_digits line) refl
         (below_at _ (lit< tt) (arguments_to line frame_arguments) (arguments_below line digits long frame_arguments (lit≤ tt)))
     go false test = tt
 
-pub frames_are_small_lem : FramesAreSmall
-frames_are_small_lem line f e =
-    let small = subst (Small 256) e (frame_small line) in
-    record { byte_stream = small.0; words = small.1 }
+small_frame : (line : List ℕ) (f : Frame) → frame_of line ≡ Some f → Small 256 (Some f)
+small_frame line f e = subst (Small 256) e (frame_small line)
+
+pub stream_small : (line : List ℕ) (f : Frame) → frame_of line ≡ Some f → f.stream < 256
+stream_small line f e = (small_frame line f e).0
+
+pub arguments_small : (line : List ℕ) (f : Frame) → frame_of line ≡ Some f → T (all_words (arguments f.call))
+arguments_small line f e = (small_frame line f e).1
+
+pub ruleset frames_small = (stream_small, arguments_small)
 
 -- ---- the calls of the lines
 
-words : (ls : List (List ℕ)) → T (are_words (requests_in ls))
+pub words : (ls : List (List ℕ)) → T (are_words (requests_in ls))
 unfolding requests_in are_words
 words [] = tt
 words (line ∷ rest) = words_before 256 (frame_of line) (requests_in rest) (frame_small line) (words rest)
 
-same_store_lem : (store : List ℕ) (ls : List (List ℕ)) → store_from store ls ≡ store_after store (requests_in ls)
+pub same_store_lem : (store : List ℕ) (ls : List (List ℕ)) → store_from store ls ≡ store_after store (requests_in ls)
 unfolding requests_in store_from store_after on_line on_frame request_of
 same_store_lem store [] = refl
 same_store_lem store (line ∷ rest) = after (frame_of line) (λ (s : List ℕ). same_store_lem s rest)
@@ -72,5 +78,4 @@ same_store_lem store (line ∷ rest) = after (frame_of line) (λ (s : List ℕ).
     after (Some f) more = more (on_store store (record { stream = f.stream; made = f.call })).store
     after None more = more store
 
-pub makes_calls : (store : List ℕ) (ls : List (List ℕ)) → MakesCalls store ls
-makes_calls store ls = record { words = words ls; same_store = same_store_lem store ls }
+pub ruleset makes_calls = (words, same_store_lem)

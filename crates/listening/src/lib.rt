@@ -124,6 +124,7 @@ pub fn newest_part(store: &[u8], stream: u32, count: u32) -> Part
 
 // The records themselves: a part of the lent store, ending at the last standing record, and empty where the call is refused. Its contract
 // says at which place of the store it starts, and its bytes.
+#[tactic(auto, using(crate::proofs::Making::part_inside))]
 pub fn newest(store: &[u8], stream: u32, count: u32) -> &[u8]
     ensures { (result.ref_ptr, result.now) ≡ part_of store.entry.ref_ptr store.now (newest_part store.now stream count) }
 {
@@ -230,6 +231,7 @@ fn try_lot(
     Ok(answer)
 }
 
+// Kept: beside `try_block`: the two share their order alone, and each has its own tests, step, record and answer.
 #[tactic(auto, using(crate::proofs::Trying::runs))]
 fn try_run(
     store: &mut [u8],
@@ -384,7 +386,7 @@ fn take_entry(store: &mut [u8], stream: u32, standing: Standing) -> u32
 }
 
 // A part as long as an area, as the array that `areas` asks for: to be opened.
-// Kept: apart from their callers: where one function lends a part and makes it an array, nothing is known of what comes back.
+// Kept: two functions each (one was tried): of a part that is lent and made an array in one function, nothing is known afterwards.
 fn open_part(part: &mut [u8], plan: Plan)
     requires { (length part.old ≡ area_length) × T (valid_plan plan) }
     ensures { part.new ≡ written 0 (header_of plan 0 (started plan)) part.old }
@@ -428,7 +430,7 @@ fn ending_at_last(stream: u32, standing: usize, handed: usize) -> Part
 }
 
 // Where a stream's area starts.
-// Kept: a stream below 16 is required in three: `look` tests the number once, and each call of C brings it as a number.
+// Kept: a number, and no type for `stream < streams`: `look` gives a `Standing`, and four functions would need both.
 fn start_of(stream: u32) -> usize
     requires { stream < streams }
     ensures { result ≡ start_of stream }

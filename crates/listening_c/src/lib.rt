@@ -64,6 +64,7 @@ pub extern "C" fn listening_lot(
     )
 }
 
+// Kept: beside `listening_block`, since each call of C has a name of its own (the C interface).
 #[unsafe(no_mangle)]
 pub extern "C" fn listening_run(
     store: &mut [u8],

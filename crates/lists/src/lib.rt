@@ -16,7 +16,7 @@ pub const ANSWER_LENGTH: usize = 4;
 
 // Makes each call of a list, one after the other, and writes the answers. Where the numbers are no list of calls, or there is not
 // room for exactly their answers, it writes nothing and answers false.
-// Kept: a bool and no Result, since C's `listening_list` hands this answer on, and `Listed` speaks of it.
+// Kept: a bool, since the contract `Listed` (every list of calls, demand 3) speaks of it, and C's `listening_list` hands it on.
 pub fn list(store: &mut [u8], calls: &[u32], answers: &mut [u32]) -> bool
     ensures { Listed store.old calls.now answers.old result store.new answers.new }
 {
@@ -36,6 +36,7 @@ fn are_made(calls: &[[u32; CALL_LENGTH]]) -> bool
 }
 
 // Makes the calls, which all exist, and writes the answer of each in its place.
+// Kept: each place by its offset, since after `as_chunks_mut` or `iter_mut` nothing is known of the slice but its length.
 fn make_all(store: &mut [u8], calls: &[[u32; CALL_LENGTH]], answers: &mut [u32])
     requires { (length answers.old ≡ answer_length * length calls.now) × (exist calls.now ≡ true) }
     ensures { (store.new ≡ store_after store.old (requests_in calls.now)) × (answers.new ≡ numbers_of (answers_to store.old (requests_in calls.now))) }
@@ -60,7 +61,7 @@ fn frame_of(numbers: &[u32; CALL_LENGTH]) -> Option<Frame>
 }
 
 // An answer as numbers, refusal first.
-// Kept: no From, since neither the answer nor an array is a type of this crate, which has ANSWER_LENGTH.
+// Kept: no From, since it would have to stand in `model`, which knows nothing of lists.
 #[tactic(auto, unfolding(crate::specs::Lists::numbers_of))]
 fn numbers_of(answer: Answer) -> [u32; ANSWER_LENGTH]
     ensures { result ≡ numbers_of (answer ∷ []) }

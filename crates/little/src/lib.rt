@@ -33,6 +33,7 @@ pub fn get<W: Word>(s: &[u8], at: usize) -> W
 }
 
 // Writes x's bytes into s from index `at` on.
+// Kept: the bytes one by one, and no `to_le_bytes`: the edit `put_divides_by_128` is of this division.
 // Speed: at a width that is known the loop is compiled to one store.
 pub fn put<W: Word>(s: &mut [u8], at: usize, x: W)
     requires { at + W.WIDTH ≤ length s.old }

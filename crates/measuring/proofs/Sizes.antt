@@ -5,11 +5,12 @@ use mathlib.Core.Bool.{Bool, true, false, cond}
 use Prim.Native.Nat.{ℕ, zero, suc, ◌+◌, ◌-◌, ◌*◌, ◌≤◌, ◌<◌, ◌^◌}
 use native.Mathlib.Nat.{le_refl}
 use native.Mathlib.Omega.{arith}
-use lib.Dec.{ltb}
+use lib.Dec.{T, ltb}
 use lib.IntN.{ℤ, pos, negsuc, ◌+ℤ◌, ◌-ℤ◌, ◌*ℤ◌, neg_ℤ, nat_abs, one, *ℤ-one}
+use lib.Signed.{non_neg}
 use mir.Syntax.{Width, w32, w64}
-use mir.Val.{SFits, hbits, to_z, of_z}
-use mir.Facts.{to_z-of_z, sfits_widen}
+use mir.Val.{Fits, SFits, bits, hbits, to_z, of_z}
+use mir.Facts.{to_z-of_z, Fits-of_lt, sfits_widen}
 use Rattle.std.proofs.lemmas.Int.{fits_signed_from_abs}
 
 -- |a + b| is at most |a| + |b|
@@ -36,6 +37,13 @@ size_negated (negsuc n) = refl
 pub size_difference : (a b : ℤ) → nat_abs (a -ℤ b) ≤ nat_abs a + nat_abs b
 size_difference a b = omega (arith, size_sum a (neg_ℤ b), size_negated b)
 
+-- |a b| is |a| |b|
+pub size_product : (a b : ℤ) → nat_abs (a *ℤ b) ≡ nat_abs a * nat_abs b
+size_product (pos a) (pos b) = refl
+size_product (pos a) (negsuc b) = size_negated (pos (a * suc b))
+size_product (negsuc a) (pos b) = size_negated (pos (suc a * b))
+size_product (negsuc a) (negsuc b) = refl
+
 -- z times 1 is z
 pub times_one : (z : ℤ) → z *ℤ pos 1 ≡ z
 unfolding one
@@ -60,6 +68,10 @@ module _ (w : Width) {z : ℤ} (small : nat_abs z < 2 ^ hbits w) where
 -- a number that fits is read as small as it is
 pub near_again : {w : Width} {z : ℤ} {most : ℕ} → SFits w z → nat_abs z ≤ most → nat_abs (again w z) ≤ most
 near_again fits near = rw (to_z-of_z fits) near
+
+-- a number that is not negative can be cast to 64 bits, where the machine reads it as it is
+pub casts : {y z : ℤ} → y ≡ z → T (non_neg z) → nat_abs z < 2 ^ bits w64 → T (non_neg y) × Fits w64 (nat_abs y)
+casts is sign small = rw is (sign, Fits-of_lt small)
 
 -- a 32-bit number, widened to 64 bits
 module _ {z : ℤ} (short : SFits w32 z) where

@@ -6,7 +6,7 @@ use mathlib.Core.List.{List, [], ◌∷◌, ◌++◌}
 use native.Mathlib.Omega.{arith}
 use lib.Dec.{T, eqb, ltb, leb, eqb→eq, leb→le, ltb→lt}
 use lib.ListN.{length}
-use borrow.Author.Tests.{ltb-false, leb-false, eqb-true, eqb-false, ne_eqb, not-false}
+use borrow.Author.Tests.{ltb-false, leb-false, eqb-true, eqb-false, eq-eqb, ne_eqb, not-false}
 use Rattle.plans.specs.Limits.{largest_aoql, largest_ceiling, verification_levels, largest_clearance, largest_interval, longest_run, longest_stop, within}
 use Rattle.plans.specs.Continuous.{is_sampling}
 use Rattle.model.specs.declared.Plan.{Plan}
@@ -226,6 +226,10 @@ passed_all p f count e h = go (eqb (first_refusal (rule_refusals p f count e)) 0
     go true true k l given = absurd (omega arith)
     go true false k l given = record { allowed = eqb-true (first_refusal (rule_refusals p f count e)) 0 k; recorded = l }
     go false c k l given = absurd (eqb-false (first_refusal (rule_refusals p f count e)) 0 k (omega arith))
+
+pub all_passed : (p : Plan) (f : Figures) (count : ℕ) (e : Entry) → Passed p f count e → first_refusal (entry_refusals p f count e) ≡ 0
+all_passed p f count e known =
+    rw (entry_refusal p f count e, eq-eqb (first_refusal (rule_refusals p f count e)) 0 known.allowed, known.recorded)
 
 -- the newest entry was accepted after the others, which are admissible
 pub record NewestEntry (p : Plan) (e : Entry) (es : List Entry) : Type 0 where

@@ -1,27 +1,21 @@
 -- Tests taken apart and put together, beside those that plans has. Assumes nothing.
 use Prim.Native.Nat.{ℕ, ◌^◌, ◌<◌}
 use mathlib.Core.Path.{◌≡◌, refl, sym, subst, ◌∙◌}
-use mathlib.Core.Bool.{Bool, true, false, ◌&&◌, ◌||◌}
+use mathlib.Core.Bool.{Bool, true, false, ◌&&◌}
 use mathlib.Core.List.{List, [], ◌∷◌}
 use lib.Dec.{T, ltb, lt→ltb}
 use Rattle.model.specs.Stations.{all_words}
 pub use Rattle.plans.proofs.Booleans.{both_of, both_true, within_of}
+pub use Rattle.std.proofs.lemmas.Bool.{or_parts as neither_of}
+pub use Rattle.std.specs.Bool.{passes as of_holds}
 
 pub holds_of : (b : Bool) → T b → b ≡ true
 holds_of true t = refl
 holds_of false t = absurd t
 
-pub of_holds : (b : Bool) → b ≡ true → T b
-of_holds b e = subst (λ (b : Bool). T b) (sym e) tt
-
 pub both : (a b : Bool) → T a → T b → T (a && b)
 both true b s t = t
 both false b s t = s
-
--- the parts of a disjunction that fails
-pub neither_of : (a b : Bool) → a || b ≡ false → (a ≡ false) × (b ≡ false)
-neither_of true b e = absurd (subst (λ (x : Bool). T x) e tt)
-neither_of false b e = (refl, e)
 
 -- a test does not come out both ways
 pub never_both : (b : Bool) → b ≡ true → b ≡ false → ⊥

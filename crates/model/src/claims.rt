@@ -12,11 +12,13 @@ ghost use Rattle.model.specs.Claims.{DecidesSoundness, KeepsToItsArea, PartOfIts
 ghost use Rattle.model.specs.Cases.{CasesHold};
 
 // An area is sound, as paper 01 says it, exactly where the reading gives a station, and that station is the only one.
+#[tactic(auto, using(crate::proofs::Soundness::decides_soundness))]
 pub fn soundness_is_decided()
     ensures { (area : List ℕ) → DecidesSoundness area }
 {}
 
 // A refusal changes nothing; a call writes only inside its own stream's area and reads no other.
+#[tactic(auto, using(crate::proofs::OnStore::keeps_to_its_area))]
 pub fn calls_keep_to_their_area()
     ensures { (store : List ℕ) (r : Request) → KeepsToItsArea store r }
 {}
@@ -32,6 +34,7 @@ pub fn figures_are_backward()
 {}
 
 // A recording is found exactly where a lot, run or block stands: so a taken-back entry's recording goes with it.
+#[tactic(auto, using(crate::proofs::Recordings::recordings_stand_lem))]
 pub fn recordings_stand()
     ensures { (st : Station) → T (admissible_station st) → (i : ℕ) → i < most_records → RecordingsStand st (area_of st) i }
 {}
@@ -42,6 +45,7 @@ pub fn every_list_of_calls()
 {}
 
 // The cases that were worked out by hand.
+#[tactic(auto, using(crate::proofs::CallCases::cases_hold_lem))]
 pub fn cases_hold()
     ensures { CasesHold }
 {}

@@ -130,10 +130,10 @@ pub struct Part {
 }
 
 // A stream's figures.
-#[derive(Clone, Copy)]
+#[derive(Clone, Copy, Default)]
 pub struct Figures {
     // the least label above the newest standing lot's, 0 where no lot stands
-    // Kept: no Option, since `rules::refusing::may_follow` answers for every number (`same_label`)
+    // Kept: no Option, since `rules::refusing::may_follow` answers for every number (`same_label`).
     pub above: u64,
     pub accepted: u64,
     pub continuous: Continuous,

@@ -144,6 +144,7 @@ fn lot_call(arguments: [u32; ARGUMENTS]) -> Call
     })
 }
 
+// Kept: beside `block_call`, which makes another variant with a field of another name: nothing but the recording is common to both.
 fn run_call(arguments: [u32; ARGUMENTS]) -> Call
     ensures { result ≡ Call.Enter (Entry.Run (slot 1 arguments) (slot 2 arguments) (recording_of arguments)) }
 {

@@ -5,6 +5,8 @@ use mathlib.Core.Path.{◌≡◌, refl}
 use mathlib.Core.Bool.{Bool, true, false, cond}
 use native.Mathlib.Nat.{div-add-mod', mod-lt, add-mul, one-mul, zero-mul, mul-le-mul_left, le_of_mul-le-mul_right, lt_of_mul-lt-mul_right}
 use native.Mathlib.Omega.{arith}
+use Rattle.std.specs.Prelude.{min}
+use Rattle.std.specs.Int.{div_ceil}
 use lib.Dec.{eqb}
 use borrow.Author.Tests.{eqb-true, eqb-false}
 use Rattle.plans.specs.Credit.{rounded_up, LeastNotBelow, sample_dividend, sample_divisor, credit_sample, credit_after}
@@ -26,6 +28,15 @@ module _ (a b : ℕ) (positive : 0 < b) where
             not_below = omega (arith, div-add-mod' a b, mod-lt a positive, add-mul (a / b) 1 b, one-mul b);
             least = λ m h. omega (arith, lt_of_mul-lt-mul_right b {m = a / b} {n = m} (omega (arith, div-add-mod' a b, eqb-false (a % b) 0 e)));
           }
+
+-- the library's rounded quotient is the definition's
+pub ceiling_rounds : (a b : ℕ) → div_ceil a b ≡ rounded_up a b
+unfolding rounded_up
+ceiling_rounds a b = go (eqb (a % b) 0) refl
+  where
+    go : (exact : Bool) → eqb (a % b) 0 ≡ exact → a / b + min 1 (a % b) ≡ cond exact (a / b) (a / b + 1)
+    go true e = omega (arith, eqb-true (a % b) 0 e)
+    go false e = omega (arith, eqb-false (a % b) 0 e)
 
 module _ (K Kmax N A : ℕ) where
   divisor_positive : 0 < sample_divisor K Kmax N A

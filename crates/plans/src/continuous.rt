@@ -11,7 +11,7 @@ pub const SCREENING: u8 = 0;
 pub const SAMPLING: u8 = 1;
 
 // A continuous stream's state: bytes 24 to 31 of its area.
-#[derive(Clone, Copy)]
+#[derive(Clone, Copy, Default)]
 pub struct Continuous {
     // screening count
     pub count: u32,

@@ -15,13 +15,13 @@ ghost use Rattle.plans.specs.Limits.{largest_credit, largest_lot, largest_aoql};
 use crate::{LotSize, SampleSize, verdict};
 
 // The credit K: detections accepted since a lot was last not accepted.
-// Kept: its limit stands in clauses and not in the type, since `Credit::verdict` answers for every credit (`credit_verdict`).
-#[derive(Clone, Copy)]
+// Kept: its limit stands in clauses and not in the type, since `records::has_header` answers for figures with every credit.
+#[derive(Clone, Copy, Default)]
 pub struct Credit(pub u32);
 
 impl Credit {
     // The sample that a lot asks for under a ceiling on the usable credit, where the AOQL is limit millionths: clause 10 a), note 1.
-    #[tactic(auto, using(crate::proofs::RoundedUp::credit_sample_at_least, crate::proofs::RoundedUp::credit_sample_at_most), unfolding(crate::specs::Credit::credit_sample, crate::specs::Credit::sample_dividend, crate::specs::Credit::sample_divisor))]
+    #[tactic(auto, using(crate::proofs::RoundedUp::ceiling_rounds, crate::proofs::RoundedUp::credit_sample_at_least, crate::proofs::RoundedUp::credit_sample_at_most), unfolding(crate::specs::Credit::credit_sample, crate::specs::Credit::sample_dividend, crate::specs::Credit::sample_divisor))]
     pub fn sample(self, ceiling: u32, size: LotSize, limit: u32) -> SampleSize
         requires { (self.0 ≤ largest_credit) × (1 ≤ size.0) × (size.0 ≤ largest_lot) × (limit ≤ largest_aoql) }
         ensures result_value { result.0 ≡ credit_sample self.0 ceiling size.0 limit }
@@ -32,11 +32,11 @@ impl Credit {
         let usable = self.usable(ceiling);
         let dividend = lot * 1000000;
         let divisor = (usable.0 as u64 + lot) * limit as u64 + 1000000;
-        SampleSize(rounded_up(dividend, divisor) as u32)
+        SampleSize(dividend.div_ceil(divisor) as u32)
     }
 
-    // Kept: 0 for no ceiling, since `Credit::sample` answers for every number (`usable_credit`).
     // The credit that a sample size may use, under a ceiling or, where that is 0, under none: clause 10, note 1.
+    // Kept: 0 for no ceiling, since `Credit::sample` answers for every number (`usable_credit`).
     #[tactic(auto, unfolding(crate::specs::Credit::usable_credit))]
     fn usable(self, ceiling: u32) -> Credit
         ensures { result.0 ≡ usable_credit self.0 ceiling }
@@ -74,12 +74,4 @@ impl Credit {
             Credit(0)
         }
     }
-}
-
-// a / b, rounded up to a whole number.
-fn rounded_up(a: u64, b: u64) -> u64
-    requires { (0 < b) × (a < 2 ^ 63) }
-    ensures { result ≡ rounded_up a b }
-{
-    if a % b == 0 { a / b } else { a / b + 1 }
 }

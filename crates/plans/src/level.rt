@@ -15,7 +15,7 @@ pub const TIGHTENED: u32 = 2;
 pub const DISCONTINUED: u32 = 3;
 
 // A level stream's state: bytes 20 to 23 of its area.
-#[derive(Clone, Copy)]
+#[derive(Clone, Copy, Default)]
 pub struct LevelState {
     pub level: u32,
     // accepted lots in an unbroken row judged at this level since arriving

@@ -11,7 +11,7 @@ pub mod tables;
 pub mod verdict;
 
 // A lot's size N, in detections.
-// Kept: its limits stand in clauses and not in the type, since `verdict::accepted_of` answers for every size (`accepted_of`).
+// Kept: its limits stand in clauses and not in the type, since `rules::refusing::lot` and `ask` take every size and refuse it (11).
 #[derive(Clone, Copy)]
 pub struct LotSize(pub u32);
 

@@ -39,7 +39,7 @@ impl VerificationLevel {
     ghost use Rattle.plans.specs.Severities.{reduced};
 
     // The sample that a lot asks for at this level and the severity in force.
-    // Kept: a severity is a number, as a level is in `level`, since the answer is for every number (`column_at`).
+    // Kept: a severity is a number, as a level is in `level`: `sample_size` answers for every number (`column_at`).
     #[tactic(auto, unfolding(crate::specs::Tables::table2, crate::specs::Tables::tabled, crate::specs::Tables::level_sample))]
     pub fn sample_size(self, severity: u32, size: LotSize) -> SampleSize
         ensures result_value { result.0 ≡ level_sample self.number severity size.0 }

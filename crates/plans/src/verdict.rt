@@ -4,7 +4,7 @@ ghost use Rattle.plans.specs.Verdicts.{level_verdict, accepted_of};
 
 use crate::LotSize;
 
-// Kept: a verdict is a number, since `accepted_of` and `rules::refusing::do_counts_agree`, which take each, answer for every number.
+// Kept: a verdict is a number, since `rules::refusing::do_counts_agree` answers for every number (`counts_agree`).
 
 // No wrong detection in the sample.
 pub const ACCEPTED: u32 = 1;

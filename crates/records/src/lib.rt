@@ -155,8 +155,8 @@ pub fn get_count(area: &[u8; AREA_LENGTH]) -> usize
 }
 
 // Writes the header of a stream: its plan, how many records stand, and the figures after them.
-// Kept: plan, count and figures, as `header_of` takes them: a struct of the three would be made at each call, for that call alone.
-// Kept: `LevelFits` is required: `LevelState` has u32 numbers, of which its public methods take any (`judge`, `arrive`).
+// Kept: plan, count and figures, as `header_of` takes them; `count ≤ most_records` is asked: a struct or a type would serve one call each.
+// Kept: `LevelFits` is required: `LevelState` has u32 numbers, of which its public methods take any (`arrive`, `meet_stop`).
 pub fn put_header(area: &mut [u8; AREA_LENGTH], plan: Plan, count: usize, figures: Figures)
     requires { T (valid_plan plan) × (count ≤ most_records) × LevelFits figures.level }
     ensures { area.new ≡ written 0 (header_of plan count figures) area.old }

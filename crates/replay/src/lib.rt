@@ -26,6 +26,7 @@ pub struct Standing {
 
 // The figures after more of an area's records, or those before the first that could not stand: a loop for each plan, which brings the
 // figures up to date entry after entry.
+// Kept: a match on the kind, here and in the two below: it is read from the area, and a `dyn` would be made by the same match.
 #[tactic(auto, using(model::proofs::Allowed::third_kind))]
 pub fn replay(
     area: &[u8; AREA_LENGTH],
@@ -38,9 +39,9 @@ pub fn replay(
     ensures { result ≡ replayed plan area.now to }
 {
     match plan.kind {
-        plan::CREDIT => replay_credit::replay(area, plan, figures, from, to),
-        plan::LEVEL => replay_level::replay(area, plan, figures, from, to),
-        _ => replay_continuous::replay(area, plan, figures, from, to),
+        plan::CREDIT => replaying::replay::<replay_credit::Carried>(area, plan, figures, from, to),
+        plan::LEVEL => replaying::replay::<replay_level::Carried>(area, plan, figures, from, to),
+        _ => replaying::replay::<replay_continuous::Place>(area, plan, figures, from, to),
     }
 }
 
@@ -51,8 +52,8 @@ pub fn enter_lot(plan: Plan, figures: Figures, lot: HeardLot) -> Option<Figures>
     ensures { result ≡ tried plan figures (asked_lot plan figures lot.label lot.size.0 lot.wrong lot.wrong_in_all) }
 {
     match plan.kind {
-        plan::CREDIT => replay_credit::enter_lot(plan, figures, lot),
-        _ => replay_level::enter_lot(plan, figures, lot),
+        plan::CREDIT => replaying::enter_lot::<replay_credit::Carried>(plan, figures, lot),
+        _ => replaying::enter_lot::<replay_level::Carried>(plan, figures, lot),
     }
 }
 
@@ -63,9 +64,9 @@ pub fn enter_stop(plan: Plan, figures: Figures, why: u32, days: u32) -> Option<F
     ensures { result ≡ tried plan figures (Stop why days) }
 {
     match plan.kind {
-        plan::CREDIT => replay_credit::enter_stop(plan, figures, why, days),
-        plan::LEVEL => replay_level::enter_stop(plan, figures, why, days),
-        _ => replay_continuous::enter_stop(plan, figures, why, days),
+        plan::CREDIT => replaying::enter_stop::<replay_credit::Carried>(plan, figures, why, days),
+        plan::LEVEL => replaying::enter_stop::<replay_level::Carried>(plan, figures, why, days),
+        _ => replaying::enter_stop::<replay_continuous::Place>(plan, figures, why, days),
     }
 }
 

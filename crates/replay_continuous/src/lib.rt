@@ -1,6 +1,6 @@
-// The replay of a continuous stream's records, and its step: paper 01, "Continuous". The step is the one home of whether a continuous
-// stream's entries may stand, and what they do is `plans`' own (`Continuous::run`, `block` and `stop`): the replay takes it for each
-// record, a call for the entry that it is about to write.
+// What the replay of a continuous stream's records carries, and its step: paper 01, "Continuous". The step is the one home of whether a
+// continuous stream's entries may stand, and what they do is `plans`' own (`Continuous::run`, `block` and `stop`): the replay takes it for
+// each record, a call for the entry that it is about to write.
 //
 // It does not carry the state as the area has it. One number, left, is what is still to be screened until clearance, i - c, and 0 in
 // sampling: so it says the phase and which run fits.
@@ -9,9 +9,9 @@
 #![tactic(auto)]
 
 ghost use Rattle.std.specs.Prelude.{◌≡◌, ◌≤◌};
-ghost use Rattle.model.specs.declared.Entry.TheVariants.{Run, Block, Stop};
+ghost use Rattle.model.specs.declared.Entry.TheVariants.{Run, Block};
 ghost use Rattle.model.specs.Records.{no_recording};
-ghost use Rattle.replaying.specs.Replaying.{Ready, replayed, Reached, tried};
+ghost use Rattle.replaying.specs.Replaying.{Reached, tried};
 ghost use Rattle.replay_continuous.specs.Places.{
   left_of,
   state_of,
@@ -23,42 +23,22 @@ ghost use Rattle.replay_continuous.specs.Places.{
   flag_of,
 };
 
-use model::{Figures, Plan, Record, sizes};
+use model::{Figures, Plan, Record};
 use plans::continuous::Continuous;
-use plans::credit::Credit;
-use plans::level::LevelState;
 use plans::{continuous, limits};
 use replaying::{Numbers, Records};
-use rules::refusing;
+use rules::{plan, refusing};
 
 // What an entry of a continuous stream can change: what is left to be screened, the tail, and how many are accepted.
 #[derive(Clone, Copy)]
-struct Place {
+pub struct Place {
     left: u32,
     tail: u16,
     accepted: u64,
 }
 
-// The figures after more of the records of a continuous stream, brought up to date entry after entry; or those before the first that could
-// not stand.
-// Speed: a function of its own, with the registers for itself; inlined beside the loops of the other plans, a call on a long stream takes
-// up to 1.25 times as long on level plans and 1.8 times on continuous ones.
-#[inline(never)]
-pub fn replay(
-    area: &[u8; sizes::AREA_LENGTH],
-    plan: Plan,
-    figures: Figures,
-    from: usize,
-    to: usize,
-) -> Result<Figures, Figures>
-    requires { Ready plan area.now figures from to × (plan.kind ≡ 3) }
-    ensures { result ≡ replayed plan area.now to }
-{
-    replaying::replay::<Place>(area, plan, figures, from, to)
-}
-
 // A run more on a continuous stream's figures, as a call enters it: the figures after it, none where it could not stand.
-// Kept: wrong as a number, 0 or 1, here and of a block: an argument of a public function may not become narrower.
+// Kept: wrong as a number, as `Run` and `Block` have it: with a bool the contract would say `flag_of` of it, and each call show that.
 pub fn enter_run(plan: Plan, figures: Figures, right: u32, wrong: u32) -> Option<Figures>
     requires { Reached plan figures × (plan.kind ≡ 3) × (wrong ≤ 1) }
     ensures { result ≡ tried plan figures (Run right wrong no_recording) }
@@ -69,6 +49,7 @@ pub fn enter_run(plan: Plan, figures: Figures, right: u32, wrong: u32) -> Option
 }
 
 // The same of a block.
+// Kept: beside `enter_run`, of which it has the order alone: the step and the entry are its own.
 pub fn enter_block(plan: Plan, figures: Figures, heard: u32, wrong: u32) -> Option<Figures>
     requires { Reached plan figures × (plan.kind ≡ 3) × (wrong ≤ 1) }
     ensures { result ≡ tried plan figures (Block heard wrong no_recording) }
@@ -76,14 +57,6 @@ pub fn enter_block(plan: Plan, figures: Figures, heard: u32, wrong: u32) -> Opti
     let before = replaying::before_call::<Place>(plan, figures)?;
     let after = before.step_block(plan, heard, wrong == 1)?;
     Some(after.figures(plan))
-}
-
-// The same of a stop.
-pub fn enter_stop(plan: Plan, figures: Figures, why: u32, days: u32) -> Option<Figures>
-    requires { Reached plan figures × (plan.kind ≡ 3) }
-    ensures { result ≡ tried plan figures (Stop why days) }
-{
-    replaying::enter_stop::<Place>(plan, figures, why, days)
 }
 
 impl Numbers for Place {
@@ -102,16 +75,9 @@ impl Numbers for Place {
     fn figures(self, plan: Plan) -> Figures {
         let continuous = self.state(plan.a);
         Figures {
-            credit: Credit(0),
-            level: LevelState {
-                level: 0,
-                row: 0,
-                judged: 0,
-                window: 0,
-            },
             continuous,
             accepted: self.accepted,
-            above: 0,
+            ..plan::no_figures()
         }
     }
 

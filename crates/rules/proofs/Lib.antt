@@ -1,3 +1,4 @@
--- Laws of a lot's counts, and of refusals up to the last.
+-- Laws of a lot's counts, of refusals up to the last, and of figures that are zero.
 pub mod Counts
 pub mod UpToLast
+pub mod Zeros

@@ -18,6 +18,7 @@ use model::{Answer, Figures, HeardLot, Plan};
 use plans::{continuous, verdict};
 
 // A refusal gives three zeros.
+// Kept: takes a number, beside `From<Refusal>`: this public function promises an answer for every number (`refused_by`).
 pub fn refused(refusal: u32) -> Answer
     ensures { result ≡ refused_by refusal }
 {

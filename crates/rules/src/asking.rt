@@ -41,6 +41,7 @@ pub fn verdict(plan: Plan, figures: Figures, wrong: u32) -> u32
 }
 
 // What a block gives.
+// Kept: `1 ≤ heard`, at most the interval, is asked here and in two more: `answering::block` has to say that the interval is the plan's.
 pub fn block(plan: Plan, figures: Figures, heard: u32, wrong: u32) -> Block
     requires { (1 ≤ heard) × (heard ≤ plan.b) × (plan.b ≤ largest_interval) }
     ensures { result ≡ after_block plan.b heard (eqb wrong 1) figures.continuous }

@@ -2,11 +2,9 @@
 ghost use Rattle.std.specs.Prelude.{◌≡◌, ◌&&◌, eqb, leb};
 ghost use Rattle.model.specs.Stations.{valid_ranges, valid_ceiling, valid_plan};
 ghost use Rattle.plans.specs.Limits.{within, largest_clearance, largest_interval};
-ghost use Rattle.model.specs.Figuring.{started as started_figures, with_level};
+ghost use Rattle.model.specs.Figuring.{started as started_figures, with_level, no_level};
 
 use model::{Figures, Plan};
-use plans::continuous::Continuous;
-use plans::credit::Credit;
 use plans::level::LevelState;
 use plans::limits;
 
@@ -18,8 +16,7 @@ pub const LEVEL: u32 = 2;
 pub const CONTINUOUS: u32 = 3;
 
 // Whether a stream may be opened so: what refusal 5 leaves.
-// Kept: a bool, and no type for a valid plan: what asks `valid_plan` goes on with the plan itself (`header_of`, `sample_asked`), and would
-// have to take it out of the type in every clause.
+// Kept: a bool, no type for a valid plan: `asking::verdict` and `answering::read_figure` promise an answer for every plan.
 #[tactic(auto, unfolding(model::specs::Stations::valid_plan))]
 pub fn is_valid(plan: Plan) -> bool
     ensures { result ≡ valid_plan plan }
@@ -28,19 +25,24 @@ pub fn is_valid(plan: Plan) -> bool
 }
 
 // The figures of a stream that has just been opened.
-#[tactic(auto, unfolding(model::specs::Figuring::started, model::specs::Figuring::no_level, model::specs::Stations::is_level))]
+#[tactic(auto, unfolding(model::specs::Figuring::started, model::specs::Stations::is_level))]
 pub fn started(plan: Plan) -> Figures
     ensures { result ≡ started_figures plan }
 {
     if plan.kind == LEVEL {
-        return with_level(LevelState::start());
+        return Figures {
+            level: LevelState::start(),
+            ..no_figures()
+        };
     }
-    with_level(LevelState {
-        level: 0,
-        row: 0,
-        judged: 0,
-        window: 0,
-    })
+    no_figures()
+}
+
+// The figures that are foreign to a plan are zero.
+pub fn no_figures() -> Figures
+    ensures { result ≡ with_level no_level }
+{
+    Figures::default()
 }
 
 // Whether A, B and the option are in the ranges of the plan's kind.
@@ -81,17 +83,4 @@ fn is_for_blocks(plan: Plan) -> bool
     limits::within(1, limits::LARGEST_CLEARANCE, plan.a)
         && limits::within(2, limits::LARGEST_INTERVAL, plan.b)
         && plan.option == 0
-}
-
-// The figures of a new stream with this level state; those foreign to its plan are zero.
-fn with_level(level: LevelState) -> Figures
-    ensures { result ≡ with_level level }
-{
-    Figures {
-        credit: Credit(0),
-        level,
-        continuous: Continuous::screen(0),
-        accepted: 0,
-        above: 0,
-    }
 }

@@ -91,6 +91,7 @@ pub fn run(plan: Plan, count: usize, right: u32, wrong: u32) -> Result<(), Refus
 }
 
 // The refusal of a block, up to 15.
+// Kept: beside `run`, with which it shares 7 and 9: each is its own list in paper 01, in the order of the paper.
 #[tactic(auto, unfolding(model::specs::Calls::first_refusal, model::specs::Calls::rule_refusals, model::specs::Calls::is_full, model::specs::Stations::is_continuous, crate::specs::Refusing::earlier, crate::specs::Refusing::BlockUpToLast))]
 pub fn block(plan: Plan, count: usize, heard: u32, wrong: u32) -> Result<(), Refusal>
     ensures { BlockUpToLast plan count heard wrong (refusal_number result) }
@@ -211,6 +212,8 @@ pub fn is_stop(why: u32, days: u32) -> bool
 }
 
 // Whether the counts of a lot agree: what refusal 13 leaves.
+// Kept: a lot's numbers apart, here and in `may_follow`: `HeardLot` has no sample and no verdict, and a good lot's counts are not looked
+// at.
 #[tactic(auto, unfolding(model::specs::Calls::counts_agree))]
 pub fn do_counts_agree(
     verdict: u32,

@@ -5,12 +5,9 @@ use mathlib.Core.Bool.{true}
 use native.Mathlib.Omega.{arith}
 use lib.Seq.{length-take-le}
 use Rattle.feeding.specs.Fed.{lies_whole}
-use Rattle.feeding.proofs.Laws.{nothing_fed, InFront, whole_inside, in_front, frame_next, byte_next, all_fed}
+use Rattle.feeding.proofs.Laws.{InFront, whole_inside, in_front, frame_next, byte_next, all_fed}
 use Rattle.feeding.proofs.feed.Goals as goal
 use Rattle.feeding.proofs.feed.Goals.{Then-lies_whole, In-Some}
-
-pub loop-rest-init : goal.loop-rest-init
-loop-rest-init c = nothing_fed _ _ _ _ c.requires
 
 whole : (c : Then-lies_whole) → lies_whole c.loop-rest.line c.loop-rest.rest.now ≡ true
 whole c = sym c.lies_whole.ensures ∙ c.if-lies_whole.true
@@ -28,12 +25,6 @@ overflow_add-wrote c =
     let next = frame_next _ _ _ _ _ _ _ _ _ _ _ _ _ c.loop-rest.invariant (front (goal.at.overflow_add-wrote c).In-Some) c.make_call-wrote.ensures refl in
     omega (arith, next.room)
 
-pub slice_bounds-rest-count : goal.slice_bounds-rest-count
-slice_bounds-rest-count c = (front (goal.at.slice_bounds-rest-count c).In-Some).inside
-
-pub slice_bounds-rest-start : goal.slice_bounds-rest-start
-slice_bounds-rest-start c = (front (goal.at.slice_bounds-rest-start c).In-Some).inside
-
 pub loop-rest-preserved-in-Some : goal.loop-rest-preserved-in-Some
 loop-rest-preserved-in-Some c =
     frame_next _ _ _ _ _ _ _ _ _ _ _ _ _ c.loop-rest.invariant (front (goal.at.loop-rest-preserved-in-Some c).In-Some) c.make_call-wrote.ensures refl
@@ -42,9 +33,6 @@ pub overflow_add-wrote-in-len1-up : goal.overflow_add-wrote-in-len1-up
 overflow_add-wrote-in-len1-up c =
     let next = byte_next _ _ _ _ _ _ _ _ _ _ _ _ c.loop-rest.invariant c.in-len1-up.len_at_least c.take_byte-wrote.ensures in
     omega (arith, next.room)
-
-pub loop-rest-preserved : goal.loop-rest-preserved
-loop-rest-preserved c = search byte_next
 
 pub returns : goal.returns
 returns c = search all_fed
