@@ -41,9 +41,6 @@ module _ (buffer : List ℕ) (have : ℕ) (line : List ℕ) (h : LineHeld buffer
   pub held_line : take have buffer ≡ line
   held_line = rw h.whole (take_at line (zeros (line_room - have)) have (sym h.count))
 
-  pub held_again : LineHeld buffer have (take have buffer)
-  held_again = rw held_line h
-
   pub kept_byte : (b : ℕ) → have < line_room → LineHeld (set buffer have b) (have + 1) (kept line b)
   unfolding kept
   kept_byte b room =
