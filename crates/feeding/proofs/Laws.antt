@@ -96,7 +96,7 @@ going_on store line line' out b other keeping =
     (record { answered = nothing_printed store out; line = keeping })
 
 -- a byte prints no more than a line
-byte_prints : (u : Unfinished) (b : ℕ) → length (printed_by u (b ∷ [])) ≤ text_length
+pub byte_prints : (u : Unfinished) (b : ℕ) → length (printed_by u (b ∷ [])) ≤ text_length
 unfolding printed_by printed_at on_line on_frame
 byte_prints u b = rw append-nil (go (eqb b line_feed) (frame_of u.line))
   where
@@ -147,7 +147,7 @@ in_front line bytes f whole frame =
       frame = frame;
     }
 
-frame_fed : (store line bytes out : List ℕ) (f : Frame) (wrote : ℕ) (store' out' : List ℕ)
+pub frame_fed : (store line bytes out : List ℕ) (f : Frame) (wrote : ℕ) (store' out' : List ℕ)
     → InFront line bytes f → Answered (on_frame store (Some f)) out wrote store' out'
     → FedBy (held store line) (take line_room bytes) out wrote store' line out'
 unfolding on_line
@@ -205,7 +205,7 @@ module _ (u : Unfinished) (piece first : List ℕ) (wrote : ℕ) (store line res
       Onward u piece first (wrote + more) store' line' (take (length rest - k) (drop k rest))
       (take wrote out ++ (out' ++ drop (length out - wrote) (drop wrote out)))
 
-  fed_next : (k : ℕ) → Onward u piece first wrote store line rest out → k ≤ length rest
+  pub fed_next : (k : ℕ) → Onward u piece first wrote store line rest out → k ≤ length rest
       → FedBy (held store line) (take k rest) (take (length out - wrote) (drop wrote out)) more store' line' out'
       → more ≤ text_length * k → Next k
   fed_next k so inside fed few =

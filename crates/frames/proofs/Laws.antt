@@ -1,14 +1,14 @@
--- What a turn comes to where nothing was read, and what all turns together leave. Assumes nothing.
+-- What a turn comes to, by what the read answered, and what all turns together leave. Assumes nothing.
 use mathlib.Core.Path.{◌≡◌, refl, sym, ap, ◌∙◌}
 use mathlib.Core.Bool.{true, false}
 use mathlib.Core.List.{List, [], ◌++◌}
-use Prim.Native.Nat.{ℕ, zero, suc, ◌≤◌}
+use Prim.Native.Nat.{ℕ, zero, suc, ◌≤◌, ◌<◌}
 use lib.ListN.{take, length}
 use native.Mathlib.Omega.{arith}
 use Rattle.std.specs.Result.{IsErrAnd}
 use Rattle.std.specs.Prelude.{Result, Ok, Err, IfErr}
 use Rattle.model.specs.Store.{fresh}
-use Rattle.frame_text.specs.Feeding.{Unfinished, begun, after_bytes}
+use Rattle.frame_text.specs.Feeding.{Unfinished, begun, after_bytes, printed_by}
 use Rattle.frame_text.proofs.Feeding.{fed_in_pieces}
 use Rattle.feeding.specs.Fed.{held}
 use Rattle.feeding.proofs.Laws.{nothing_printed, text_inside}
@@ -26,6 +26,17 @@ unfolding on_read
 read_failed store line piece out got e (Ok t) failed same = absurd same
 read_failed store line piece out got e (Err y) failed same =
     rw failed (record { reached = record { answered = nothing_printed store out; line = refl }; turn = ap Err same })
+
+module _ (u : Unfinished) (piece : List ℕ) where
+  pub some_came : (k : ℕ) → 0 < k → on_read u piece (Ok k) ≡ record { state = after_bytes u (take k piece); text = printed_by u (take k piece); turn = Ok (More (length (printed_by u (take k piece)))) }
+  unfolding on_read
+  some_came zero some = absurd (let never : ⊥ = omega (arith, some) in never)
+  some_came (suc k) some = refl
+
+  -- the end of the input: nothing came, and the read did not fail
+  pub input_ended : (k : ℕ) → (0 < k → ⊥) → on_read u piece (Ok k) ≡ on_read u piece (Ok 0)
+  input_ended zero none = refl
+  input_ended (suc k) none = absurd (none (omega arith))
 
 -- how many bytes of text there are
 abbrev pub wrote_in : Result Turn Failure → ℕ

@@ -63,7 +63,7 @@ use Rattle.listening.proofs.Looking.{keeps, OpenedIn, opened_in, on_kept, on_wri
 use Rattle.listening.proofs.Making.{shut_calls, number_positive, seen_plan, seen_figures, seen_count}
 
 -- a refusal of its own applies, before the last of paper 01's
-first_given : {store : List ℕ} {stream : ℕ} {s : Standing} → OpenedIn 0 store stream s → (e : Entry) (r : Refused)
+pub first_given : {store : List ℕ} {stream : ℕ} {s : Standing} → OpenedIn 0 store stream s → (e : Entry) (r : Refused)
     → UpToLast s.plan s.figures s.count e (number_of r) → keeps (refused (number_of r)) store ≡ on_store store (on stream (Enter e))
 first_given {store} {stream} opened e r said =
     on_kept store stream opened.whole opened.known (Enter e) (refused_first opened.at e said (number_positive r) refl)

@@ -44,6 +44,10 @@ module _ (w : Width) (a b : ℤ) (h : ℕ) (a_small : nat_abs a ≤ h) (b-small 
   pub difference_done : (again w (again w a -ℤ again w b) ≡ a -ℤ b) × (nat_abs (again w (again w a -ℤ again w b)) ≤ h + h)
   difference_done = (difference_read, rw difference_read difference_size)
 
+-- a distance, and how large it can be
+abbrev pub IsDistance : ℤ → ℤ → Sample → Type 0
+IsDistance r distance s = (r ≡ distance) × (nat_abs r ≤ s.count * (2 * largest_level))
+
 -- n times a limit that is given, and the distances
 module _ {s : Sample} (m : Measured s) {limit : Option ℤ} {x : ℤ} (given : limit ≡ Some x) (ranged : limit_in_range limit ≡ true) where
   abbrev product : ℤ
@@ -58,9 +62,11 @@ module _ {s : Sample} (m : Measured s) {limit : Option ℤ} {x : ℤ} (given : l
   pub product_fits : SFits w32 product
   product_fits = sized w32 (omega (arith, product_size))
 
-  pub upper_done : again w32 (again w32 product -ℤ again w32 s.sum) ≡ to_upper limit s
+  pub upper_done : IsDistance (again w32 (again w32 product -ℤ again w32 s.sum)) (to_upper limit s) s
   unfolding to_upper
-  upper_done = rw (given, ← product_is) (difference_done w32 product s.sum (s.count * largest_level) product_size m.near (omega arith)).0
+  upper_done =
+      let d = difference_done w32 product s.sum (s.count * largest_level) product_size m.near (omega arith) in
+      (rw (given, ← product_is) d.0, omega (arith, d.1))
 
 -- two numbers that are as large at most as n levels lie no further apart than a distance can be
 module _ {s : Sample} (m : Measured s) (a b : ℤ) (a-near : nat_abs a ≤ s.count * largest_level) (b-near : nat_abs b ≤ s.count * largest_level) where
@@ -80,10 +86,12 @@ turned_is (Some l) s =
     ∙ +ℤ_comm (neg_ℤ (pos s.count *ℤ l)) s.sum
 turned_is None s = refl
 
-module _ (r : ℤ) (near : nat_abs r ≤ largest_distance) where
+-- whatever bounds the distance from an upper limit bounds the turned one
+module _ (h : ℕ) (few : h ≤ largest_distance) (r : ℤ) (near : nat_abs r ≤ h) where
   turned_read : again w32 (pos 0 -ℤ again w32 r) ≡ pos 0 -ℤ r
   turned_read =
-      rw (read w32 {z = r} (omega (arith, near))) (read w32 {z = pos 0 -ℤ r} (omega (arith, size_difference (pos 0) r, near)))
+      rw (read w32 {z = r} (omega (arith, few, near))) (read w32 {z = pos 0 -ℤ r} (omega (arith, size_difference (pos 0) r, few, near)))
 
-  pub turned_done : (limit : Option ℤ) (s : Sample) → r ≡ to_upper limit s → again w32 (pos 0 -ℤ again w32 r) ≡ to_lower limit s
-  turned_done limit s is = turned_read ∙ rw is (turned_is limit s)
+  pub turned_done : (limit : Option ℤ) (s : Sample) → r ≡ to_upper limit s
+      → (again w32 (pos 0 -ℤ again w32 r) ≡ to_lower limit s) × (nat_abs (again w32 (pos 0 -ℤ again w32 r)) ≤ h)
+  turned_done limit s is = (turned_read ∙ rw is (turned_is limit s), rw turned_read (omega (arith, size_difference (pos 0) r, near)))

@@ -45,6 +45,24 @@ unfolding at_most whole ratio
 not_negative_lem d n =
     ap (λ (z : ℤ). le_z z (d *ℤ pos 1)) (zero-*ℤ (pos n)) ∙ ap (le_z (pos 0)) (times_one d) ∙ not_aboveℤ (pos 0) d
 
+-- how large the products of the k criterion can be, with σ for S, δ for the distance and p for n - 1
+pub record KProducts (k σ n δ : ℕ) : Type 0 where
+  pub kk : k * k ≤ 10 ^ 6
+  pub kkσ : k * k * σ ≤ 16 * 10 ^ 16
+  pub kkσn : k * k * σ * n ≤ 16 * 10 ^ 18
+  pub δδ : δ * δ ≤ 64 * 10 ^ 10
+  pub δδp : δ * δ * (n - 1) ≤ 64 * 10 ^ 12
+  pub scaled : δ * δ * (n - 1) * 10000 ≤ 64 * 10 ^ 16
+
+-- and those of the F criterion, with ω for U - L
+pub record FProducts (f σ n ω : ℕ) : Type 0 where
+  pub scaled : σ * 1000000 ≤ 16 * 10 ^ 16
+  pub ff : f * f ≤ 10 ^ 6
+  pub ωω : ω * ω ≤ 64 * 10 ^ 6
+  pub ffωω : f * f * (ω * ω) ≤ 64 * 10 ^ 12
+  pub np : n * (n - 1) ≤ 10 ^ 4
+  pub ffωωnp : f * f * (ω * ω) * (n * (n - 1)) ≤ 64 * 10 ^ 16
+
 -- U - L as the code has it
 abbrev pub width : ℤ → ℤ → ℤ
 width l u = again w32 u -ℤ again w32 l
@@ -79,15 +97,19 @@ module _ {s : Sample} (m : Measured s) where
       rw (square d, ← pos-nat_abs s.spread m.not_negative)
       (k_cancelled k (nat_abs s.spread) s.count (s.count - 1) (nat_abs d) (omega (arith, m.enough)))
 
-  -- the largest product, k² S n
-  pub k_fits : (k : ℕ) → k ≤ largest_k → Fits w64 (k * k * nat_abs (again w64 s.spread) * s.count)
-  k_fits k k-small =
-      let kk : k * k ≤ 10 ^ 6 = mul-le-mul k-small k-small in
-      let kkσ : k * k * nat_abs s.spread ≤ 16 * 10 ^ 16 = mul-le-mul kk spread_small in
-      let kkσn : k * k * nat_abs s.spread * s.count ≤ 16 * 10 ^ 18 = mul-le-mul kkσ m.few in
-      rw spread_read (Fits-of_lt (omega arith))
+  all_but_one : s.count - 1 ≤ largest_sample
+  all_but_one = omega (arith, m.few)
 
   module _ (d : ℤ) (near : nat_abs d ≤ largest_distance) where
+    pub k_products : (k : ℕ) → k ≤ largest_k → KProducts k (nat_abs (again w64 s.spread)) s.count (nat_abs (again w32 d))
+    k_products k k-small =
+        let kk : k * k ≤ 10 ^ 6 = mul-le-mul k-small k-small in
+        let kkσ : k * k * nat_abs s.spread ≤ 16 * 10 ^ 16 = mul-le-mul kk spread_small in
+        let δδ : nat_abs d * nat_abs d ≤ 64 * 10 ^ 10 = mul-le-mul near near in
+        let δδp : nat_abs d * nat_abs d * (s.count - 1) ≤ 64 * 10 ^ 12 = mul-le-mul δδ all_but_one in
+        rw (spread_read, distance_read d near)
+        record { kk = kk; kkσ = kkσ; kkσn = mul-le-mul kkσ m.few; δδ = δδ; δδp = δδp; scaled = omega arith }
+
     pub k_compared : (k : ℕ) → lt_z (again w32 d) (pos 0) ≡ false
         → leb (k * k * nat_abs (again w64 s.spread) * s.count) (nat_abs (again w32 d) * nat_abs (again w32 d) * (s.count - 1) * 10000)
         ≡ meets_k k s (ratio d s.count)
@@ -95,29 +117,35 @@ module _ {s : Sample} (m : Measured s) where
     k_compared k inside =
         rw (spread_read, distance_read d near, not_negative_lem d s.count, rw (distance_read d near) at inside) (sym (k_squares k d))
 
+  -- the largest product, k² S n
+  k_none : (k : ℕ) → k ≤ largest_k → KProducts k (nat_abs (again w64 s.spread)) s.count (nat_abs (again w32 (pos 0)))
+  k_none = k_products (pos 0) (omega arith)
+
+  pub k_fits : (k : ℕ) → k ≤ largest_k → Fits w64 (k * k * nat_abs (again w64 s.spread) * s.count)
+  k_fits k k-small = Fits-of_lt (omega (arith, (k_none k k-small).kkσn))
+
   -- the F criterion
   module _ (l u : ℤ) (l-small : nat_abs l ≤ largest_level) (u-small : nat_abs u ≤ largest_level) where
     abbrev ω : ℕ
     ω = nat_abs (again w32 (width l u))
 
+    pub f_products : (f : ℕ) → f ≤ largest_f → FProducts f (nat_abs (again w64 s.spread)) s.count ω
+    f_products f f-small =
+        let ω-small : ω ≤ 2 * largest_level = (width_done l u l-small u-small).1 in
+        let ff : f * f ≤ 10 ^ 6 = mul-le-mul f-small f-small in
+        let ωω : ω * ω ≤ 64 * 10 ^ 6 = mul-le-mul ω-small ω-small in
+        let ffωω : f * f * (ω * ω) ≤ 64 * 10 ^ 12 = mul-le-mul ff ωω in
+        let np : s.count * (s.count - 1) ≤ 10 ^ 4 = mul-le-mul m.few all_but_one in
+        rw spread_read
+        record { scaled = omega (arith, spread_small); ff = ff; ωω = ωω; ffωω = ffωω; np = np; ffωωnp = mul-le-mul ffωω np }
+
     -- F² (U - L)², and the largest product, F² (U - L)² n (n - 1)
     module _ (f : ℕ) (f-small : f ≤ largest_f) where
-      squares_small : f * f * (ω * ω) ≤ 64 * 10 ^ 12
-      squares_small =
-          let ω-small : ω ≤ 2 * largest_level = (width_done l u l-small u-small).1 in
-          let ff : f * f ≤ 10 ^ 6 = mul-le-mul f-small f-small in
-          let ωω : ω * ω ≤ 64 * 10 ^ 6 = mul-le-mul ω-small ω-small in
-          mul-le-mul ff ωω
-
       pub f_squares_fit : Fits w64 (f * f * (ω * ω))
-      f_squares_fit = Fits-of_lt (omega (arith, squares_small))
+      f_squares_fit = Fits-of_lt (omega (arith, (f_products f f-small).ffωω))
 
       pub f_fits : Fits w64 (f * f * (ω * ω) * (s.count * (s.count - 1)))
-      f_fits =
-          let p : s.count - 1 ≤ largest_sample = omega (arith, m.few) in
-          let np : s.count * (s.count - 1) ≤ 10 ^ 4 = mul-le-mul m.few p in
-          let all : f * f * (ω * ω) * (s.count * (s.count - 1)) ≤ 64 * 10 ^ 16 = mul-le-mul squares_small np in
-          Fits-of_lt (omega arith)
+      f_fits = Fits-of_lt (omega (arith, (f_products f f-small).ffωωnp))
 
     pub f_compared : (f : ℕ) → leb (nat_abs (again w64 s.spread) * 1000000) (f * f * (ω * ω) * (s.count * (s.count - 1))) ≡ meets_f f l u s
     unfolding meets_f at_most times squared minus whole ratio variance

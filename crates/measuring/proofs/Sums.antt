@@ -8,7 +8,7 @@ use native.Mathlib.Nat.{mul-le-mul, le_refl, lt_of_le_of_lt}
 use native.Mathlib.Omega.{arith}
 use lib.ListN.{length, drop, get_or, drop_of_length-le}
 use lib.Seq.{drop-cons}
-use lib.IntN.{ℤ, pos, ◌+ℤ◌, +ℤ_assoc, +ℤ_idr, nat_abs}
+use lib.IntN.{ℤ, pos, ◌+ℤ◌, +ℤ_assoc, +ℤ_idl, +ℤ_idr, nat_abs}
 use mir.Syntax.{Width}
 use mir.Val.{SFits, hbits, to_z, of_z}
 use mir.ValLaws.{to_z-of_z}
@@ -19,6 +19,9 @@ pub record SumAt (f : ℤ → ℤ) (b : ℕ) (xs : List ℤ) (z : ℤ) (i : ℕ)
   pub within : i ≤ length xs
   pub small : nat_abs z ≤ i * b
   pub sofar : z +ℤ sum_of f (drop i xs) ≡ sum_of f xs
+
+pub sum_first : (f : ℤ → ℤ) (b : ℕ) (xs : List ℤ) → SumAt f b xs (pos 0) 0
+sum_first f b xs = record { within = omega arith; small = omega arith; sofar = +ℤ_idl (sum_of f xs) }
 
 module _ {f : ℤ → ℤ} {b : ℕ} {xs : List ℤ} {z : ℤ} {i : ℕ} (inv : SumAt f b xs z i) where
   module _ {v : ℤ} (here : i < length xs) (is : v ≡ f (get_or xs i (pos 0))) (short : nat_abs v ≤ b) where

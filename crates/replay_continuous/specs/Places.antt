@@ -47,7 +47,7 @@ fits_run left h wrong = cond wrong (ltb h left) (within 1 left h)
 abbrev pub flag_of : Bool → ℕ
 flag_of wrong = cond wrong 1 0
 
--- a place of a stream with a place free in the store, and what an entry gives there
+-- a place of a stream with room for one entry more, and what an entry gives there
 abbrev pub OnContinuous : Plan → Place → Type 0
 OnContinuous p s = GoesOn 3 (figures_in p.a) (λ x. x.left ≤ p.a) p s
 

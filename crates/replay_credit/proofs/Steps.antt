@@ -25,11 +25,11 @@ use Rattle.replaying.specs.Replaying.{tried, asked_lot, Left, GoesOn, Tells}
 use Rattle.replaying.specs.LotStreams.{lot_figures}
 use Rattle.replaying.proofs.LotStreams.{numbers_kept, lot_numbers, stop_numbers, follower_size}
 use Rattle.replaying.proofs.Reached.{no_level_lem}
-use Rattle.replaying.proofs.Tried.{by_test, lot_tried, stop_tried}
+use Rattle.replaying.proofs.Tried.{told_by_test, lot_tried, stop_tried}
 use Rattle.replay_credit.specs.declared.Carried.{Carried}
 use Rattle.replay_credit.specs.Carrying.{figures_in}
 
--- numbers with a place free, as the steps take them
+-- numbers with room for one entry more, as the steps take them
 abbrev pub OnCredit : Plan → Carried → Type 0
 OnCredit p s = GoesOn 1 figures_in (λ _. Unit {0}) p s
 
@@ -56,7 +56,7 @@ module _ (p : Plan) (s : Carried) (run : OnCredit p s) where
   kind : p.kind ≡ 1
   kind = run.on.of_kind
 
-  lots : is_continuous p ≡ false
+  pub lots : is_continuous p ≡ false
   unfolding is_continuous
   lots = rw kind
 
@@ -65,7 +65,7 @@ module _ (p : Plan) (s : Carried) (run : OnCredit p s) where
   unfolding figures_in level_step is_level
   stop_given why days b test =
       rw (stop_tried p (figures_in s) run.goes_on why days, stop_numbers s.credit.0 no_level s.accepted s.above p why days lots, kind, test)
-      (by_test figures_in _ b s _ refl tt)
+      (told_by_test figures_in _ b s _ refl tt)
 
   module _ (why days : ℕ) (ok : Bool) (tested : ok ≡ is_stop why days) where
     pub stop_stands : ok ≡ true → StopGives p s why days (Some s)
@@ -111,7 +111,7 @@ module _ (p : Plan) (s : Carried) (run : OnCredit p s) where
     lot_given : (b : Bool) → may_follow (least_lot false) s.above label N && counts_agree v N n d D ≡ b → LotGives p s label N d D (cond b (Some after) None)
     lot_given b test =
         rw (lot_tried p (figures_in s) run.goes_on lots label N d D, judged_so, asked_so, following, stepped_so, test)
-        (by_test figures_in _ b after _ refl tt)
+        (told_by_test figures_in _ b after _ refl tt)
 
   -- the answers of the code
   module _ (label N : ℕ) (may : Bool) (tested : may ≡ may_follow (least_lot false) s.above label N) where

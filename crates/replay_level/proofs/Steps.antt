@@ -24,15 +24,15 @@ use Rattle.model.proofs.Allowed.{level_plan}
 use Rattle.model.proofs.Booleans.{both_true}
 use Rattle.rules.specs.Refusing.{may_follow, is_stop}
 use Rattle.std.specs.Prelude.{Option, Some, None}
-use Rattle.replaying.specs.Replaying.{tried, asked_lot, Left, GoesOn, Tells}
+use Rattle.replaying.specs.Replaying.{tried, asked_lot, Left, On, GoesOn, Tells}
 use Rattle.replaying.specs.LotStreams.{lot_figures}
 use Rattle.replaying.proofs.LotStreams.{numbers_kept, lot_numbers, stop_numbers}
 use Rattle.replaying.proofs.Reached.{no_credit}
-use Rattle.replaying.proofs.Tried.{by_test, lot_tried, stop_tried}
+use Rattle.replaying.proofs.Tried.{told_by_test, lot_tried, stop_tried}
 use Rattle.replay_level.specs.declared.Carried.{Carried}
 use Rattle.replay_level.specs.Carrying.{figures_in, fits_sample}
 
--- numbers with a place free, of a stream that goes on, as the steps take them
+-- numbers with room for one entry more, of a stream that goes on, as the steps take them
 abbrev pub OnLevel : Plan → Carried → Type 0
 OnLevel p s = GoesOn 2 figures_in (λ _. Unit {0}) p s
 
@@ -59,26 +59,27 @@ counts_agree_lem N n d D = go (eqb d 0) refl
     go true e = simp (eqb-true d 0 e, leb-zero, and-true)
     go false e = simp (e, and-true, and_comm (leb d n) (eqb D d))
 
-module _ (p : Plan) (s : Carried) (run : OnLevel p s) where
-  lots : is_continuous p ≡ false
+module _ (p : Plan) (s : Carried) (on : On 2 figures_in (λ _. Unit {0}) p s) where
+  pub lots : is_continuous p ≡ false
   unfolding is_continuous
-  lots = rw run.on.of_kind
+  lots = rw on.of_kind
 
+module _ (p : Plan) (s : Carried) (run : OnLevel p s) where
   module _ (label N d D : ℕ) where
     lot_told : (b : Bool) → may_follow 2 s.above label N && fits_sample p.a s.state.level N d D ≡ b
         → LotGives p s label N d D (cond b (Some (record { state = judged_lot (has_option p) (ltb 0 d) s.state; accepted = s.accepted + accepted_of (level_verdict d) N D; above = label + 1 })) None)
     unfolding asked_lot size_in_range is_level is_credit sample_asked verdict_on credit_step level_step figures_in lot_figures may_follow fits_sample
     lot_told b test =
         let agree = counts_agree_lem N (level_sample p.a s.state.level N) d D in
-        rw (lot_tried p (figures_in s) run.goes_on lots label N d D, lot_numbers 0 s.state s.accepted s.above p label N _ d D _)
-        (rw (run.on.of_kind, agree, test) (by_test figures_in _ b _ _ refl tt))
+        rw (lot_tried p (figures_in s) run.goes_on (lots p s run.on) label N d D, lot_numbers 0 s.state s.accepted s.above p label N _ d D _)
+        (rw (run.on.of_kind, agree, test) (told_by_test figures_in _ b _ _ refl tt))
 
   stop_told : (why days : ℕ) (b : Bool) → is_stop why days ≡ b
       → StopGives p s why days (cond b (Some (record { state = met_stop why days s.state; accepted = s.accepted; above = s.above })) None)
   unfolding level_step is_level figures_in
   stop_told why days b test =
-      rw (stop_tried p (figures_in s) run.goes_on why days, stop_numbers 0 s.state s.accepted s.above p why days lots, run.on.of_kind, test)
-      (by_test figures_in _ b _ _ refl tt)
+      rw (stop_tried p (figures_in s) run.goes_on why days, stop_numbers 0 s.state s.accepted s.above p why days (lots p s run.on), run.on.of_kind, test)
+      (told_by_test figures_in _ b _ _ refl tt)
 
   -- the answers of the code: a lot
   module _ (label N : ℕ) (may : Bool) (tested : may ≡ may_follow 2 s.above label N) where

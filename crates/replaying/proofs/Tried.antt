@@ -20,7 +20,7 @@ use Rattle.model.specs.Calls.{first_refusal, rule_refusals, is_discontinued, is_
 use Rattle.model.proofs.Allowed.{allowed_lot, allowed_run, allowed_block, allowed_stop, accepted_parts}
 use Rattle.model.proofs.Booleans.{both_true, never_both}
 use Rattle.rules.specs.Refusing.{is_stop}
-use Rattle.std.specs.Prelude.{Some, None}
+use Rattle.std.specs.Prelude.{Option, Some, None}
 use Rattle.replaying.specs.Replaying.{one_number, unrecorded, well_formed, head_of, flagged, holds_stop, why_of, stands, entered_if, entered, tried, asked_lot, Tells}
 use Rattle.replaying.proofs.Heads.{head_is, StopForm, stop_held, stop_form}
 
@@ -260,8 +260,23 @@ module _ (p : Plan) (f : Figures) (r : Record) where
           go true false x y = failed (rw (x, y))
           go false a x y = failed (rw x)
 
--- a plan's step, by a test: where it holds, the numbers after it stand for the figures after it
-pub by_test : {C : Type 0} (shown : C → Figures) (ranged : C → Type 0) (b : Bool) (x : C) (g : Figures) → shown x ≡ g → ranged x
+-- ---- a plan's step, told in figures: once for any type of steps, by what a step is told as on the figures before it
+module _ {Step : Type 0} (tells : Figures → Step → Option Figures) (f : Figures) (x z : Step) where
+  -- a step that turned out to be this one
+  module _ (is : x ≡ z) (v : Option Figures) (told : tells f z ≡ v) where
+    pub told_in : v ≡ tells f x
+    told_in = rw is (sym told)
+
+    pub told_as_lem : (y : Option Figures) → tells f x ≡ y → v ≡ y
+    told_as_lem y gives = told_in ∙ gives
+
+  -- a step by a test
+  pub by_test : (b : Bool) (g : Figures) → tells f x ≡ Some g → tells f z ≡ None → tells f (cond b x z) ≡ entered_if b g
+  by_test true g stands fails = stands
+  by_test false g stands fails = fails
+
+-- the same of a step that gives numbers: where the test holds, those after it stand for the figures after it
+pub told_by_test : {C : Type 0} (shown : C → Figures) (ranged : C → Type 0) (b : Bool) (x : C) (g : Figures) → shown x ≡ g → ranged x
     → Tells shown ranged (cond b (Some x) None) (entered_if b g)
-by_test shown ranged true x g same kept = record { same = ap Some same; in_range = kept }
-by_test shown ranged false x g same kept = record { same = refl; in_range = tt }
+told_by_test shown ranged true x g same kept = record { same = ap Some same; in_range = kept }
+told_by_test shown ranged false x g same kept = record { same = refl; in_range = tt }

@@ -138,7 +138,7 @@ unfoldable pub replayed : Plan → List ℕ → ℕ → Result Figures Figures
 replayed p area zero = Ok (started p)
 replayed p area (suc i) = replayed_if (stand_to p area (suc i)) (figures_to p area (suc i)) (figures_told (replayed p area i))
 
--- numbers of a stream whose plan is of this kind: with a place free, so that no sum overflows
+-- numbers of a stream whose plan is of this kind: with room for one entry more, so that no sum overflows
 pub record On {C : Type 0} (kind : ℕ) (shown : C → Figures) (ranged : C → Type 0) (p : Plan) (c : C) : Type 0 where
   pub of_kind : p.kind ≡ kind
   pub valid : T (valid_plan p)

@@ -14,4 +14,4 @@ invariant_of-result-2 c =
     search (apart_near c.sample.invariant, product_size c.sample.invariant c.in-Some.is c.requires, c.sample.invariant.near)
 
 pub returns : goal.returns
-returns c = rw (← c.sample.view_is) (upper_done c.sample.invariant c.in-Some.is c.requires)
+returns c = rw (← c.sample.view_is) (upper_done c.sample.invariant c.in-Some.is c.requires).0
