@@ -29,14 +29,15 @@ pub fn feed(store: &mut [u8], line: &mut Line, piece: &[u8], out: &mut [u8]) -> 
     let mut wrote = 0;
     let mut rest = piece;
     while let [byte, after @ ..] = rest {
+        let room = &mut out[wrote..];
         if lies_whole(line, rest) {
             if let Some(frame) = frame_text::parse(&rest[..FRAME_LENGTH]) {
-                wrote += make_call(store, frame, &mut out[wrote..]);
+                wrote += make_call(store, frame, room);
                 rest = &rest[LINE_ROOM..];
                 continue;
             }
         }
-        wrote += take_byte(store, line, *byte, &mut out[wrote..]);
+        wrote += take_byte(store, line, *byte, room);
         rest = after;
     }
     wrote
