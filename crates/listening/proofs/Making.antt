@@ -2,7 +2,8 @@
 -- what was written. The sets at the end are handed to the search, which finds these facts among what a function has learnt. Assumes nothing.
 use Prim.Native.Nat.{ℕ, ◌+◌, ◌-◌, ◌≤◌, ◌<◌, min}
 use mathlib.Core.Path.{◌≡◌, refl, sym, ap, ◌∙◌}
-use mathlib.Core.Bool.{Bool, true, false}
+use mathlib.Core.Bool.{Bool, true, false, not}
+use borrow.Author.Tests.{not-false}
 use mathlib.Core.List.{List}
 use Rattle.std.specs.Prelude.{Ok, Err}
 use Rattle.model.specs.declared.Figures.{Figures}
@@ -118,6 +119,10 @@ pub shut : (store : List ℕ) (stream newest : ℕ) (c : Call) {r : Refused} →
 shut store stream newest c seen six = look_refused store stream newest seen c refl (λ z. six)
 
 -- ---- Open
+-- a plan that is found valid is
+pub open_valid : (plan : Plan) (valid : Bool) → valid ≡ valid_plan plan → not valid ≡ false → T (valid_plan plan)
+open_valid plan valid tested holds = of_holds _ (sym tested ∙ not-false valid holds)
+
 module _ (store : List ℕ) (stream : ℕ) (plan : Plan) where
   pub open_shut : {r : Refused} → Err r ≡ looked_at 0 stream store → (r ≡ Unopened → ⊥)
       → keeps (refused (number_of r)) store ≡ on_store store (on stream (Open plan))
@@ -142,14 +147,12 @@ module _ (store : List ℕ) (stream : ℕ) (plan : Plan) where
       pub open_refused : valid ≡ false → keeps (refused 5) store ≡ on_store store (on stream (Open plan))
       open_refused fails = on_kept store stream here.whole here.known (Open plan) (open_invalid _ plan here.reads tested fails refl)
 
-      pub open_valid : valid ≡ true → T (valid_plan plan)
-      open_valid holds = of_holds _ (sym tested ∙ holds)
-
       pub open_taken : (a : Answer) (then : List ℕ) → valid ≡ true → a ≡ gives 0 0 0
           → then ≡ written (start_of stream) (written 0 (header_of plan 0 (started plan)) (area_at stream store)) store
           → keeps a then ≡ on_store store (on stream (Open plan))
       open_taken a then holds given wrote =
-          on_written store stream here.whole here.known (Open plan) (open_made _ plan here.reads (open_valid holds) given refl) wrote
+          on_written store stream here.whole here.known (Open plan)
+          (open_made _ plan here.reads (open_valid plan valid tested (ap not holds)) given refl) wrote
 
 -- ---- Back
 module _ (store : List ℕ) (stream : ℕ) (s : Standing) (seen : Ok s ≡ looked_at 1 stream store) where

@@ -14,7 +14,7 @@ use Rattle.std.specs.Simd.{first_chunks}
 use Rattle.std.proofs.lemmas.Grind.{elements, flat_map-append}
 use Rattle.std.proofs.lemmas.List.{get_or_past, take_more, take-take, drop-take, drop-drop}
 use Rattle.std.proofs.lemmas.List.Folds.{list_all-append}
-use Rattle.little.specs.Little.{part}
+use Rattle.little.specs.Little.{part, written}
 use Rattle.model.specs.declared.Answer.{Answer}
 use Rattle.model.specs.Store.{Request, StoreOutcome, on_store, store_after, answers_to}
 use Rattle.model.specs.Stations.{arguments, all_words}
@@ -49,6 +49,19 @@ filled_more : (first more room : List ℕ) (at k : ℕ) → length first ≡ at
     → put_mid at k (first ++ drop at room) more ≡ (first ++ more) ++ drop (at + k) room
 filled_more first more room at k e = rw (take_at first _ at e, drop_at first _ at e, drop-drop k at room, append_assoc) refl
 
+-- a call of a list, on whatever store and answers it finds
+pub one_made : (store ns answers : List ℕ) (i : ℕ) {f : Frame} {r : Answer} {store_then answers_then : List ℕ} → frame_at ns i ≡ Some f
+    → ◌≡◌ {A = StoreOutcome} (record { answer = r; store = store_then }) (on_store store (on f.stream f.call))
+    → answers_then ≡ written (answer_length * i) (numbers_of (r ∷ [])) answers
+    → (store_then ≡ store_after store (request_of (frame_at ns i)))
+    × (answers_then ≡ written (answer_length * i) (numbers_of (answers_to store (request_of (frame_at ns i)))) answers)
+unfolding request_of store_after answers_to
+one_made store ns answers i made outcome wrote =
+    rw made (
+      ap (λ (o : StoreOutcome). o.store) outcome,
+      wrote ∙ ap (λ (o : StoreOutcome). written (answer_length * i) (numbers_of (o.answer ∷ [])) answers) outcome,
+    )
+
 -- calls that were made from a store, as many as i, with their answers in room for more
 pub record MadeTo (store room : List ℕ) (calls : List Request) (i : ℕ) (store_then room_then : List ℕ) : Type 0 where
   pub counted : length calls ≡ i
@@ -67,12 +80,12 @@ module _ {store room : List ℕ} {calls : List Request} {i : ℕ} {store_then ro
   numbers_next r =
       rw before.stored (ap numbers_of (answers_after store calls (r ∷ [])) ∙ numbers_append (answers_to store calls) _)
 
-  pub one_made : (r : Request) {a : Answer} {after numbers filled : List ℕ}
+  pub next_made : (r : Request) {a : Answer} {after numbers filled : List ℕ}
       → ◌≡◌ {A = StoreOutcome} (record { answer = a; store = after }) (on_store store_then r)
       → numbers ≡ numbers_of (a ∷ []) → filled ≡ put_mid (answer_length * i) answer_length room_then numbers
       → MadeTo store room (calls ++ r ∷ []) (i + 1) after filled
   unfolding store_after
-  one_made r {a = a} {numbers = numbers} outcome wrote put =
+  next_made r {a = a} {numbers = numbers} outcome wrote put =
       record {
         counted = rw length-append (omega (arith, before.counted));
         stored = ap (λ (o : StoreOutcome). o.store) outcome ∙ rw before.stored (sym (store_after_lem store calls (r ∷ [])));

@@ -2,7 +2,7 @@
 use Rattle.std.proofs.Common.{◌≡◌, ◌+◌, ◌-◌, ◌*◌, length, take_all, arith, sym, ap, ◌∙◌}
 use borrow.Rule.Slice.PartMut.{put_mid}
 use Rattle.lists.specs.Lists.{answer_length}
-use Rattle.lists.proofs.ListLaws.{none_made, one_made, made_all, request_next}
+use Rattle.lists.proofs.ListLaws.{none_made, next_made, made_all, request_next}
 use Rattle.lists.proofs.make_all.Goals as goal
 
 pub loop-i-init : goal.loop-i-init
@@ -13,7 +13,7 @@ loop-i-preserved c =
     let i = c.loop-i.i in
     let size : answer_length * i + answer_length - answer_length * i ≡ answer_length = omega arith in
     rw (request_next c.args.calls.now i c.loop-i-test.true (sym c.frame_of.ensures ∙ c.unwrap-stream.ensures))
-    (one_made c.loop-i.invariant _ c.make-answer.ensures (c.copy_from_slice.ensures.after ∙ c.numbers_of.ensures)
+    (next_made c.loop-i.invariant _ c.make-answer.ensures (c.copy_from_slice.ensures.after ∙ c.numbers_of.ensures)
     (ap (λ n. put_mid (answer_length * i) n c.loop-i.answers c.copy_from_slice.new.self) size))
 
 pub returns : goal.returns
