@@ -123,6 +123,17 @@ shut store stream newest c seen six = look_refused store stream newest seen c re
 pub open_valid : (plan : Plan) (valid : Bool) → valid ≡ valid_plan plan → not valid ≡ false → T (valid_plan plan)
 open_valid plan valid tested holds = of_holds _ (sym tested ∙ not-false valid holds)
 
+-- what is seen where the stream could be opened
+module _ (store : List ℕ) (stream : ℕ) (seen : Err Unopened ≡ looked_at 0 stream store) where
+  here : UnopenedIn store stream
+  here = unopened_in store stream 0 seen refl
+
+  pub open_whole : length store ≡ store_length
+  open_whole = here.whole
+
+  pub open_known : stream < streams
+  open_known = here.known
+
 module _ (store : List ℕ) (stream : ℕ) (plan : Plan) where
   pub open_shut : {r : Refused} → Err r ≡ looked_at 0 stream store → (r ≡ Unopened → ⊥)
       → keeps (refused (number_of r)) store ≡ on_store store (on stream (Open plan))
@@ -134,25 +145,19 @@ module _ (store : List ℕ) (stream : ℕ) (plan : Plan) where
       on_kept store stream opened.whole opened.known (Open plan) (open_again opened.at plan refl)
 
   module _ (seen : Err Unopened ≡ looked_at 0 stream store) where
-    here : UnopenedIn store stream
-    here = unopened_in store stream 0 seen refl
-
-    pub open_whole : length store ≡ store_length
-    open_whole = here.whole
-
-    pub open_known : stream < streams
-    open_known = here.known
+    opening : UnopenedIn store stream
+    opening = here store stream seen
 
     module _ (valid : Bool) (tested : valid ≡ valid_plan plan) where
       pub open_refused : valid ≡ false → keeps (refused 5) store ≡ on_store store (on stream (Open plan))
-      open_refused fails = on_kept store stream here.whole here.known (Open plan) (open_invalid _ plan here.reads tested fails refl)
+      open_refused fails = on_kept store stream opening.whole opening.known (Open plan) (open_invalid _ plan opening.reads tested fails refl)
 
       pub open_taken : (a : Answer) (then : List ℕ) → valid ≡ true → a ≡ gives 0 0 0
           → then ≡ written (start_of stream) (written 0 (header_of plan 0 (started plan)) (area_at stream store)) store
           → keeps a then ≡ on_store store (on stream (Open plan))
       open_taken a then holds given wrote =
-          on_written store stream here.whole here.known (Open plan)
-          (open_made _ plan here.reads (open_valid plan valid tested (ap not holds)) given refl) wrote
+          on_written store stream opening.whole opening.known (Open plan)
+          (open_made _ plan opening.reads (open_valid plan valid tested (ap not holds)) given refl) wrote
 
 -- ---- Back
 module _ (store : List ℕ) (stream : ℕ) (s : Standing) (seen : Ok s ≡ looked_at 1 stream store) where

@@ -9,12 +9,13 @@ use lib.Dec.{T, lit<}
 use lib.ListN.{length, get_or, take, drop, length-append, drop_of_length-le}
 use lib.Seq.{get_or-drop, get_or-take, take_at, drop_at}
 use borrow.Rule.Slice.PartMut.{put_mid}
-use Rattle.std.specs.Prelude.{Some}
+use Rattle.std.specs.Prelude.{Some, None}
 use Rattle.std.specs.Simd.{first_chunks}
 use Rattle.std.proofs.lemmas.Grind.{elements, flat_map-append}
 use Rattle.std.proofs.lemmas.List.{get_or_past, take_more, take-take, drop-take, drop-drop}
 use Rattle.std.proofs.lemmas.List.Folds.{list_all-append}
 use Rattle.little.specs.Little.{part, written}
+use Rattle.little.proofs.Laws.{written_nil}
 use Rattle.model.specs.declared.Answer.{Answer}
 use Rattle.model.specs.Store.{Request, StoreOutcome, on_store, store_after, answers_to}
 use Rattle.model.specs.Stations.{arguments, all_words}
@@ -49,7 +50,7 @@ filled_more : (first more room : List ℕ) (at k : ℕ) → length first ≡ at
     → put_mid at k (first ++ drop at room) more ≡ (first ++ more) ++ drop (at + k) room
 filled_more first more room at k e = rw (take_at first _ at e, drop_at first _ at e, drop-drop k at room, append_assoc) refl
 
--- a call of a list, on whatever store and answers it finds
+-- a call of a list, on whatever store and answers it finds, and one that makes none
 pub one_made : (store ns answers : List ℕ) (i : ℕ) {f : Frame} {r : Answer} {store_then answers_then : List ℕ} → frame_at ns i ≡ Some f
     → ◌≡◌ {A = StoreOutcome} (record { answer = r; store = store_then }) (on_store store (on f.stream f.call))
     → answers_then ≡ written (answer_length * i) (numbers_of (r ∷ [])) answers
@@ -61,6 +62,12 @@ one_made store ns answers i made outcome wrote =
       ap (λ (o : StoreOutcome). o.store) outcome,
       wrote ∙ ap (λ (o : StoreOutcome). written (answer_length * i) (numbers_of (o.answer ∷ [])) answers) outcome,
     )
+
+pub one_passed : (store ns answers : List ℕ) (i : ℕ) → frame_at ns i ≡ None
+    → (store ≡ store_after store (request_of (frame_at ns i)))
+    × (answers ≡ written (answer_length * i) (numbers_of (answers_to store (request_of (frame_at ns i)))) answers)
+unfolding request_of store_after answers_to numbers_of
+one_passed store ns answers i none = rw none (refl, sym (written_nil (answer_length * i) answers))
 
 -- calls that were made from a store, as many as i, with their answers in room for more
 pub record MadeTo (store room : List ℕ) (calls : List Request) (i : ℕ) (store_then room_then : List ℕ) : Type 0 where

@@ -43,7 +43,7 @@ StopGives p s why days x = Tells figures_in (λ _. Unit {0}) x (tried p (figures
 -- the numbers of figures stand for them
 pub numbers_of : (p : Plan) (f : Figures) → Left p f → p.kind ≡ 1 → figures_in (record { credit = f.credit; accepted = f.accepted; above = f.above }) ≡ f
 unfolding figures_in is_level is_continuous
-numbers_of p f left kind = numbers_kept p f left (rw kind) _ _ refl (no_level_lem p f left (rw kind))
+numbers_of p f left kind = numbers_kept p f left.entries left.stood left.after (rw kind) _ _ refl (no_level_lem p f left.entries left.stood left.after (rw kind))
 
 -- none is discontinued
 pub goes_on_lem : (s : Carried) → false ≡ is_discontinued (figures_in s)

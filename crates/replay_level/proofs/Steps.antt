@@ -46,7 +46,7 @@ StopGives p s why days x = Tells figures_in (λ _. Unit {0}) x (tried p (figures
 -- the numbers of figures stand for them
 pub numbers_of : (p : Plan) (f : Figures) → Left p f → p.kind ≡ 2 → figures_in (record { state = f.level; accepted = f.accepted; above = f.above }) ≡ f
 unfolding figures_in is_credit is_continuous
-numbers_of p f left kind = numbers_kept p f left (rw kind) _ _ (no_credit p f left (rw kind)) refl
+numbers_of p f left kind = numbers_kept p f left.entries left.stood left.after (rw kind) _ _ (no_credit p f left.entries left.stood left.after (rw kind)) refl
 
 -- ---- steps
 

@@ -2,24 +2,27 @@
 use Prim.Native.Nat.{ℕ, ◌+◌, ◌≤◌}
 use mathlib.Core.Path.{◌≡◌, refl, sym, ◌∙◌}
 use mathlib.Core.Bool.{Bool, true, false, not, ◌&&◌}
+use mathlib.Core.List.{List}
 use native.Mathlib.Nat.{add-zero}
-use lib.Dec.{eqb}
+use lib.Dec.{T, eqb}
 use borrow.Author.Tests.{eqb-true, eq-eqb}
 use Rattle.plans.specs.Limits.{largest_lot, within}
 use Rattle.plans.specs.Verdicts.{accepted_of}
 use Rattle.plans.specs.declared.level.LevelState.{LevelState}
 use Rattle.model.specs.declared.Plan.{Plan}
+use Rattle.model.specs.declared.Entry.{Entry}
 use Rattle.model.specs.declared.Entry.TheVariants.{Lot, Stop}
 use Rattle.model.specs.declared.Figures.{Figures}
 use Rattle.model.specs.declared.Record.{Record}
 use Rattle.model.specs.declared.Recording.{Recording}
 use Rattle.model.specs.Stations.{is_continuous}
-use Rattle.model.specs.Figuring.{verdict_on, accepted_by, credit_step, level_step, continuous_step, is_lot, label_of, stepped}
+use Rattle.model.specs.Figuring.{verdict_on, accepted_by, credit_step, level_step, continuous_step, is_lot, label_of, stepped, figures_of}
+use Rattle.model.specs.Calls.{admissible}
 use Rattle.model.specs.Records.{lot_kind}
 use Rattle.model.proofs.Booleans.{both_true, never_both, within_of}
 use Rattle.rules.specs.Refusing.{may_follow}
 use Rattle.std.specs.Prelude.{Option, Some, None}
-use Rattle.replaying.specs.Replaying.{head_of, faultless, why_of, entered, tried, asked_lot, Left, Tells}
+use Rattle.replaying.specs.Replaying.{head_of, faultless, why_of, entered, tried, asked_lot, Tells}
 use Rattle.replaying.specs.LotStreams.{lot_figures}
 use Rattle.replaying.proofs.Reached.{no_continuous}
 use Rattle.replaying.proofs.Tried.{lot_record_lem, stop_record, no_stop_record, other_record}
@@ -27,10 +30,10 @@ use Rattle.replaying.proofs.Tried.{lot_record_lem, stop_record, no_stop_record, 
 -- ---- the numbers
 
 -- those of figures stand for them
-pub numbers_kept : (p : Plan) (f : Figures) → Left p f → is_continuous p ≡ false → (K : ℕ) (L : LevelState) → f.credit.0 ≡ K → f.level ≡ L
-    → lot_figures K L f.accepted f.above ≡ f
+pub numbers_kept : (p : Plan) (f : Figures) (entries : List Entry) → T (admissible p entries) → f ≡ figures_of p entries
+    → is_continuous p ≡ false → (K : ℕ) (L : LevelState) → f.credit.0 ≡ K → f.level ≡ L → lot_figures K L f.accepted f.above ≡ f
 unfolding lot_figures
-numbers_kept p f left lots K L credit level = rw (← credit, ← level, ← no_continuous p f left lots)
+numbers_kept p f entries stood after lots K L credit level = rw (← credit, ← level, ← no_continuous p f entries stood after lots)
 
 module _ (K : ℕ) (L : LevelState) (A above : ℕ) where
   -- the numbers after a lot, and after a stop

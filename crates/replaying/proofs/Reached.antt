@@ -4,12 +4,15 @@ use mathlib.Core.Path.{◌≡◌, refl, ◌∙◌}
 use mathlib.Core.Bool.{false}
 use mathlib.Core.List.{List}
 use native.Mathlib.Omega.{arith}
+use lib.Dec.{T}
 use Rattle.little.specs.Little.{AreBytes}
 use Rattle.plans.specs.Continuous.{screening}
 use Rattle.model.specs.declared.Plan.{Plan}
 use Rattle.model.specs.declared.Figures.{Figures}
+use Rattle.model.specs.declared.Entry.{Entry}
 use Rattle.model.specs.Stations.{is_credit, is_level, is_continuous}
-use Rattle.model.specs.Figuring.{no_level}
+use Rattle.model.specs.Figuring.{no_level, figures_of}
+use Rattle.model.specs.Calls.{admissible}
 use Rattle.model.specs.FigureBounds.{FiguresWithRoom}
 use Rattle.model.specs.Area.{entries_in}
 use Rattle.model.proofs.Backward.{credit_backward, level_foreign, continuous_foreign}
@@ -18,16 +21,17 @@ use Rattle.replaying.specs.Replaying.{records_in, figures_to, Ready, Left, Reach
 use Rattle.replaying.proofs.Parts.{length_entries}
 use Rattle.replaying.proofs.Turns.{ready_admissible, turn_inside, turn_taken, turn_failed, turns_over}
 
-module _ (p : Plan) (f : Figures) (left : Left p f) where
+-- figures that entries could have left, whether the plan is valid or not
+module _ (p : Plan) (f : Figures) (entries : List Entry) (stood : T (admissible p entries)) (after : f ≡ figures_of p entries) where
   -- those foreign to the plan are zero
   pub no_credit : is_credit p ≡ false → f.credit.0 ≡ 0
-  no_credit e = rw left.after (credit_backward p left.entries ∙ rw e)
+  no_credit e = rw after (credit_backward p entries ∙ rw e)
 
   pub no_level_lem : is_level p ≡ false → f.level ≡ no_level
-  no_level_lem e = rw left.after (level_foreign p left.entries e)
+  no_level_lem e = rw after (level_foreign p entries e)
 
   pub no_continuous : is_continuous p ≡ false → f.continuous ≡ screening 0
-  no_continuous e = rw left.after (continuous_foreign p left.entries left.stood e)
+  no_continuous e = rw after (continuous_foreign p entries stood e)
 
 module _ (p : Plan) (f : Figures) (reached : Reached p f) where
   -- every figure fits its bytes, and no sum overflows
