@@ -8,10 +8,10 @@ use native.Mathlib.Omega.{arith}
 use borrow.Author.Tests.{le-leb, lt-leb, leb-true, eq-eqb, ne_eqb, eqb-true}
 use lib.Dec.{eqb, leb}
 use lib.ListN.{length, take, drop, get_or, set, length-append, length-drop, replicate-append-replicate, take-append-drop}
-use lib.Seq.{take_at, drop_at, set_at, append_snoc, take-suc, take_all, length-take-le}
+use lib.Seq.{take-add, take_at, drop_at, set_at, append_snoc, take-suc, take_all, length-take-le}
 use Rattle.std.specs.Prelude.{Option, Some, None}
 use Rattle.std.proofs.lemmas.List.{drop-drop, drop_all}
-use Rattle.little.specs.Little.{written}
+use Rattle.little.specs.Little.{part, written}
 use Rattle.little.proofs.Laws.{written_nil, written_next}
 use Rattle.model.specs.Area.{zeros}
 use Rattle.model.proofs.Booleans.{both_true}
@@ -163,6 +163,35 @@ write_behind : (at : ℕ) (t s : List ℕ) → take at s ++ written 0 t (drop at
 unfolding written
 write_behind at t s = rw (drop-drop (0 + length t) at s, zero-add (length t)) refl
 
+text_behind : (text more first out out' : List ℕ) (wrote : ℕ) → out ≡ written 0 text first → wrote ≡ length text
+    → out' ≡ written 0 more (drop wrote out) → wrote + length more ≤ length first → take wrote out ++ out' ≡ written 0 (text ++ more) first
+text_behind text more first out out' wrote stands count put fits =
+    rw (put, write_behind wrote more out, stands, count) (rw zero-add at (written_next 0 text more first (omega (arith, count, fits))))
+
+-- more of a piece, fed to what stands after its first bytes
+pub fed_next : (u : Unfinished) (piece first store line out : List ℕ) (i k wrote more : ℕ) (store' line' out' : List ℕ)
+    → FedBy u (take i piece) first wrote store line out
+    → FedBy (held store line) (part i k piece) (drop wrote out) more store' line' out'
+    → wrote + more ≤ length first
+    → FedBy u (take (i + k) piece) first (wrote + more) store' line' (take wrote out ++ out')
+unfolding part
+fed_next u piece first store line out i k wrote more store' line' out' fed taken fits =
+    let after : Unfinished = after_bytes u (take i piece) in
+    let printed : List ℕ = printed_by u (take i piece) in
+    let state : held store line ≡ after = rw (fed.answered.made, fed.line) refl in
+    let next = rw state at taken in
+    rw (take-add i k piece, fed_in_pieces.cut_state u (take i piece) (take k (drop i piece)), fed_in_pieces.cut_text u (take i piece) (take k (drop i piece)))
+    (record {
+      answered = record {
+        made = next.answered.made;
+        text =
+            text_behind printed (printed_by after (take k (drop i piece))) first out out' wrote fed.answered.text fed.answered.count
+            next.answered.text (omega (arith, next.answered.count, fits));
+        count = rw length-append (omega (arith, next.answered.count, fed.answered.count));
+      };
+      line = next.line;
+    })
+
 -- some of a piece was fed and printed a text: what is left, fed to what stands, comes to what the whole piece comes to
 pub record Onward (u : Unfinished) (piece first : List ℕ) (wrote : ℕ) (store line rest out : List ℕ) : Type 0 where
   pub text : List ℕ
@@ -191,8 +220,8 @@ some_fed u piece first wrote store line some rest out more store' line' out' so 
       state = rw (after, ← fed_in_pieces.cut_state before some rest) so.state;
       prints = rw (after, append_assoc so.text printed, ← fed_in_pieces.cut_text before some rest) so.prints;
       stands =
-          rw (fed.answered.text, write_behind wrote printed out, so.stands, so.count)
-          (rw zero-add at (written_next 0 so.text printed first (omega (arith, so.count, fed.answered.count, few, so.room, length-append some rest))));
+          text_behind so.text printed first out out' wrote so.stands so.count fed.answered.text
+          (omega (arith, fed.answered.count, few, so.room, length-append some rest));
       count = rw length-append (omega (arith, so.count, fed.answered.count));
       room = omega (arith, so.room, few, length-append some rest);
     }
@@ -205,10 +234,10 @@ module _ (u : Unfinished) (piece first : List ℕ) (wrote : ℕ) (store line res
       Onward u piece first (wrote + more) store' line' (take (length rest - k) (drop k rest))
       (take wrote out ++ (out' ++ drop (length out - wrote) (drop wrote out)))
 
-  pub fed_next : (k : ℕ) → Onward u piece first wrote store line rest out → k ≤ length rest
+  next_fed : (k : ℕ) → Onward u piece first wrote store line rest out → k ≤ length rest
       → FedBy (held store line) (take k rest) (take (length out - wrote) (drop wrote out)) more store' line' out'
       → more ≤ text_length * k → Next k
-  fed_next k so inside fed few =
+  next_fed k so inside fed few =
       let lent : take (length out - wrote) (drop wrote out) ≡ drop wrote out =
       take_all (length out - wrote) (drop wrote out) (simp length-drop (omega arith)) in
       let gone : drop (length out - wrote) (drop wrote out) ≡ [] = drop_all (length out - wrote) (drop wrote out) (simp length-drop (omega arith)) in
@@ -224,14 +253,14 @@ module _ (u : Unfinished) (piece first : List ℕ) (wrote : ℕ) (store line res
       → line' ≡ line
       → Next line_room
   frame_next f so front answered same =
-      fed_next line_room so front.inside (rw same (frame_fed store line rest _ f more store' out' front answered))
+      next_fed line_room so front.inside (rw same (frame_fed store line rest _ f more store' out' front answered))
       (omega (arith, answered.count, call_prints store f))
 
   pub byte_next : Onward u piece first wrote store line rest out → 1 ≤ length rest
       → FedBy (held store line) (get_or rest 0 0 ∷ []) (take (length out - wrote) (drop wrote out)) more store' line' out'
       → Next 1
   byte_next so inside fed =
-      fed_next 1 so inside (rw (take_one rest (omega arith)) fed) (omega (arith, fed.answered.count, byte_prints (held store line) (get_or rest 0 0)))
+      next_fed 1 so inside (rw (take_one rest (omega arith)) fed) (omega (arith, fed.answered.count, byte_prints (held store line) (get_or rest 0 0)))
 
 pub all_fed : (u : Unfinished) (piece first : List ℕ) (wrote : ℕ) (store line rest out : List ℕ)
     → Onward u piece first wrote store line rest out → length rest < 1 → FedBy u piece first wrote store line out

@@ -92,6 +92,9 @@ module _ (h : ℕ) (few : h ≤ largest_distance) (r : ℤ) (near : nat_abs r �
   turned_read =
       rw (read w32 {z = r} (omega (arith, few, near))) (read w32 {z = pos 0 -ℤ r} (omega (arith, size_difference (pos 0) r, few, near)))
 
+  pub turned_fits : SFits w32 (pos 0 -ℤ again w32 r)
+  turned_fits = rw (read w32 {z = r} (omega (arith, few, near))) (sized w32 (omega (arith, size_difference (pos 0) r, few, near)))
+
   pub turned_done : (limit : Option ℤ) (s : Sample) → r ≡ to_upper limit s
       → (again w32 (pos 0 -ℤ again w32 r) ≡ to_lower limit s) × (nat_abs (again w32 (pos 0 -ℤ again w32 r)) ≤ h)
   turned_done limit s is = (turned_read ∙ rw is (turned_is limit s), rw turned_read (omega (arith, size_difference (pos 0) r, near)))

@@ -12,27 +12,40 @@ use Rattle.measuring.proofs.Sizes.{again, read}
 use Rattle.measuring.proofs.Levels.{given_size}
 use Rattle.measuring.proofs.Inside.{below_upper_lem, above_lower_lem}
 
--- what 18 and 19 leave, part by part
+-- what 18 leaves, part by part
+pub record InRange (xs : List ℤ) (s : Specification) : Type 0 where
+  pub ranged : Ranged xs
+  pub lowers : limit_in_range s.lower ≡ true
+  pub uppers : limit_in_range s.upper ≡ true
+  pub ks : s.k ≤ largest_k
+  pub fs : f_in_range s.f ≡ true
 
-left : (xs : List ℤ) (s : Specification) → in_range xs s ≡ true → is_specification s.lower s.upper s.f ≡ true → Ranged xs × Allowed s
+pub left : (xs : List ℤ) (s : Specification) → in_range xs s ≡ true → InRange xs s
 unfolding in_range
-left xs s in-range specified =
+left xs s in-range =
     let some : Bool = within least_sample largest_sample (length xs) in
     let fs = both_true (some && are_levels xs && limit_in_range s.lower && limit_in_range s.upper && within 1 largest_k s.k) (f_in_range s.f) in-range in
     let ks = both_true (some && are_levels xs && limit_in_range s.lower && limit_in_range s.upper) (within 1 largest_k s.k) fs.0 in
     let us = both_true (some && are_levels xs && limit_in_range s.lower) (limit_in_range s.upper) ks.0 in
     let ls = both_true (some && are_levels xs) (limit_in_range s.lower) us.0 in
     let xs' = both_true some (are_levels xs) ls.0 in
-    let counts = within_of least_sample largest_sample (length xs) xs'.0 in (
-      record { enough = counts.0; few = counts.1; levels = xs'.1 },
-      record { lowers = ls.1; uppers = us.1; ks = (within_of 1 largest_k s.k ks.1).1; fs = fs.1; specified = specified },
-    )
+    let counts = within_of least_sample largest_sample (length xs) xs'.0 in
+    record {
+      ranged = record { enough = counts.0; few = counts.1; levels = xs'.1 };
+      lowers = ls.1;
+      uppers = us.1;
+      ks = (within_of 1 largest_k s.k ks.1).1;
+      fs = fs.1;
+    }
 
-pub ranged : (xs : List ℤ) (s : Specification) → in_range xs s ≡ true → is_specification s.lower s.upper s.f ≡ true → Ranged xs
-ranged xs s in-range specified = (left xs s in-range specified).0
+pub ranged : (xs : List ℤ) (s : Specification) → in_range xs s ≡ true → Ranged xs
+ranged xs s in-range = (left xs s in-range).ranged
 
+-- and 19
 pub allowed : (xs : List ℤ) (s : Specification) → in_range xs s ≡ true → is_specification s.lower s.upper s.f ≡ true → Allowed s
-allowed xs s in-range specified = (left xs s in-range specified).1
+allowed xs s in-range specified =
+    let l = left xs s in-range in
+    record { lowers = l.lowers; uppers = l.uppers; ks = l.ks; fs = l.fs; specified = specified }
 
 -- and of it, where F and both limits are given, what the F criterion asks
 
