@@ -163,6 +163,7 @@ write_behind : (at : ℕ) (t s : List ℕ) → take at s ++ written 0 t (drop at
 unfolding written
 write_behind at t s = rw (drop-drop (0 + length t) at s, zero-add (length t)) refl
 
+-- so the two stand as one text, where the whole room holds both
 text_behind : (text more first out out' : List ℕ) (wrote : ℕ) → out ≡ written 0 text first → wrote ≡ length text
     → out' ≡ written 0 more (drop wrote out) → wrote + length more ≤ length first → take wrote out ++ out' ≡ written 0 (text ++ more) first
 text_behind text more first out out' wrote stands count put fits =
@@ -178,15 +179,16 @@ unfolding part
 fed_next u piece first store line out i k wrote more store' line' out' fed taken fits =
     let after : Unfinished = after_bytes u (take i piece) in
     let printed : List ℕ = printed_by u (take i piece) in
+    let second : List ℕ = take k (drop i piece) in
     let state : held store line ≡ after = rw (fed.answered.made, fed.line) refl in
     let next = rw state at taken in
-    rw (take-add i k piece, fed_in_pieces.cut_state u (take i piece) (take k (drop i piece)), fed_in_pieces.cut_text u (take i piece) (take k (drop i piece)))
+    rw (take-add i k piece, fed_in_pieces.cut_state u (take i piece) second, fed_in_pieces.cut_text u (take i piece) second)
     (record {
       answered = record {
         made = next.answered.made;
         text =
-            text_behind printed (printed_by after (take k (drop i piece))) first out out' wrote fed.answered.text fed.answered.count
-            next.answered.text (omega (arith, next.answered.count, fits));
+            text_behind printed (printed_by after second) first out out' wrote fed.answered.text fed.answered.count next.answered.text
+            (omega (arith, next.answered.count, fits));
         count = rw length-append (omega (arith, next.answered.count, fed.answered.count));
       };
       line = next.line;

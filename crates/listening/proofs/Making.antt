@@ -119,7 +119,7 @@ pub shut : (store : List ℕ) (stream newest : ℕ) (c : Call) {r : Refused} →
 shut store stream newest c seen six = look_refused store stream newest seen c refl (λ z. six)
 
 -- ---- Open
--- a plan that is found valid is
+-- where a plan was found valid
 pub open_valid : (plan : Plan) (valid : Bool) → valid ≡ valid_plan plan → not valid ≡ false → T (valid_plan plan)
 open_valid plan valid tested holds = of_holds _ (sym tested ∙ not-false valid holds)
 
@@ -134,6 +134,18 @@ module _ (store : List ℕ) (stream : ℕ) (seen : Err Unopened ≡ looked_at 0 
   pub open_known : stream < streams
   open_known = here.known
 
+  module _ (plan : Plan) (valid : Bool) (tested : valid ≡ valid_plan plan) where
+    pub open_refused : valid ≡ false → keeps (refused 5) store ≡ on_store store (on stream (Open plan))
+    open_refused fails = on_kept store stream here.whole here.known (Open plan) (open_invalid _ plan here.reads tested fails refl)
+
+    pub open_taken : (a : Answer) (then : List ℕ) → valid ≡ true → a ≡ gives 0 0 0
+        → then ≡ written (start_of stream) (written 0 (header_of plan 0 (started plan)) (area_at stream store)) store
+        → keeps a then ≡ on_store store (on stream (Open plan))
+    open_taken a then holds given wrote =
+        on_written store stream here.whole here.known (Open plan)
+        (open_made _ plan here.reads (open_valid plan valid tested (ap not holds)) given refl) wrote
+
+-- where it could not
 module _ (store : List ℕ) (stream : ℕ) (plan : Plan) where
   pub open_shut : {r : Refused} → Err r ≡ looked_at 0 stream store → (r ≡ Unopened → ⊥)
       → keeps (refused (number_of r)) store ≡ on_store store (on stream (Open plan))
@@ -143,21 +155,6 @@ module _ (store : List ℕ) (stream : ℕ) (plan : Plan) where
   open_twice seen =
       let opened = opened_in store stream 0 seen refl in
       on_kept store stream opened.whole opened.known (Open plan) (open_again opened.at plan refl)
-
-  module _ (seen : Err Unopened ≡ looked_at 0 stream store) where
-    opening : UnopenedIn store stream
-    opening = here store stream seen
-
-    module _ (valid : Bool) (tested : valid ≡ valid_plan plan) where
-      pub open_refused : valid ≡ false → keeps (refused 5) store ≡ on_store store (on stream (Open plan))
-      open_refused fails = on_kept store stream opening.whole opening.known (Open plan) (open_invalid _ plan opening.reads tested fails refl)
-
-      pub open_taken : (a : Answer) (then : List ℕ) → valid ≡ true → a ≡ gives 0 0 0
-          → then ≡ written (start_of stream) (written 0 (header_of plan 0 (started plan)) (area_at stream store)) store
-          → keeps a then ≡ on_store store (on stream (Open plan))
-      open_taken a then holds given wrote =
-          on_written store stream opening.whole opening.known (Open plan)
-          (open_made _ plan opening.reads (open_valid plan valid tested (ap not holds)) given refl) wrote
 
 -- ---- Back
 module _ (store : List ℕ) (stream : ℕ) (s : Standing) (seen : Ok s ≡ looked_at 1 stream store) where
